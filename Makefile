@@ -6,14 +6,17 @@ ARCHIVE ?=
 # The crates of tests that tests/memory.sh runs with each growth refused.
 TESTS_OF_MEMORY = kc_count_tests kc_stripe_tests kc_run_tests
 
-.PHONY: demo build dist deb verify check edits bodies memory files gzip mistakes options program examples package documents
-.PHONY: workflow workflow-slurm test bench figures install clean help
+.PHONY: demo build completions dist deb verify check edits bodies memory files gzip mistakes options program examples
+.PHONY: package documents workflow workflow-slurm test bench figures install clean help
 
 demo: ## shows the program at work within two minutes: its source with checks, not yet proved
 	@tools/demo.sh
 
 build: ## proves the program and everything below it, and builds it as bin/kcount
 	@tools/build.py
+
+completions: build ## writes the completions in share/ from the help of the program
+	@tools/completions.py
 
 dist: build ## packs program, man page, completions and licences into dist/, with the SHA-256
 	@tools/dist.sh dist
@@ -29,6 +32,7 @@ check: ## proves one crate over what earlier runs kept: make check CRATE=kc_word
 
 edits: ## tries the edits that the prover must refuse, many at once: make edits CRATE=kc_word (none: all)
 	@tests/judging.py
+	@tools/check_edits.py $(CRATE)
 	@tools/edits.py $(CRATE)
 
 bodies: ## tries the wrong bodies of must-fail one by one: make bodies CRATE=kc_word (none: all)
@@ -47,7 +51,7 @@ gzip: build ## counts gzip files of many writers, cut and changed, beside gzip
 mistakes: build ## runs command lines that users get wrong, and compares what explains each fault
 	tests/mistakes.sh
 
-options: build ## compares the options of the man page and the completions with the help
+options: build ## compares the completions, and the options of the man page, with the help
 	tests/options.sh
 
 program: build ## compares the program's texts, streams and statuses as a whole, and the help's ranges and defaults with what it does

@@ -89,7 +89,7 @@ steps() {
                 : /[Ss]tripe::rows|rows_of/ ? "rows" \
                 : /book/ ? "book" \
                 : /sort/ ? "sort" \
-                : /kc_gather|gathered|fork::run_jobs|kc_tally/ ? "rows" \
+                : /kc_gather|gather_summary|fork::run_jobs|kc_tally/ ? "rows" \
                 : /kc_report|write_report|itoa/ ? "text" \
                 : "C library and others"
             shares[step] += $1

@@ -4,7 +4,7 @@
 Each name of docs/DEFINITIONS.md is declared in that file of the crate's specs/; the tables of docs/ARCHITECTURE.md and docs/PROVED.md have the
 crates of crates.txt in its order, and those that are gone stand nowhere; each file that a document names is there. The example at the front
 of each library is a part of a test, and no two source files but the libraries' fronts have one name. No line of the code, of the definitions
-or of a document's prose is too long. tests/README.md has each script of tests/ and each module of a crate of tests, and docs/STATUS.md the minutes that README.md gives. Where something isn't so, it is
+or of a document's prose is too long. tests/README.md has each script of tests/ and each module of a crate of tests, and docs/STATUS.md the minutes that README.md gives. The sections of docs/FORMATS.md that definitions cite are there. Where something isn't so, it is
 printed and the status is 1.
 """
 
@@ -140,6 +140,18 @@ def lost_minutes():
     return [f"README.md: docs/STATUS.md has no {it} minutes" for pair in pairs for it in pair if it and it not in measured]
 
 
+def lost_sections(listed):
+    """Returns the sections of docs/FORMATS.md that the definitions cite and that are not there."""
+    lost, sections = [], set(re.findall(r"(?m)^#+ (.*)$", text_of("docs/FORMATS.md")))
+    for crate in listed:
+        for path in sorted(glob.glob(f"{TOP}/crates/{crate}/specs/**/*.antt", recursive=True)):
+            here = os.path.relpath(path, TOP)
+            cited = re.findall(r"formats\s+(?:-- )?page\s+(?:-- )?\(([^)]*)\)", text_of(here))
+            named = {name for it in cited for name in re.findall(r'"([^"]*)"', it)}
+            lost += [f"{here}: docs/FORMATS.md has no section {it}" for it in sorted(named - sections)]
+    return lost
+
+
 def prose(text):
     """Returns the lines of a document with nothing in place of those of tables and of blocks of code."""
     return re.sub(r"(?m)^\|.*$", "", re.sub(r"(?ms)^```.*?^```$", lambda it: "\n" * it[0].count("\n"), text))
@@ -156,7 +168,7 @@ def long_lines(listed):
 def main():
     listed = listed_crates()
     wrong = [*lost_definitions(), *wrong_tables(listed), *lost_crates(listed), *lost_files()]
-    wrong += [*untested_examples(listed), *files_of_one_name(listed), *unlisted_tests(listed), *lost_minutes(), *long_lines(listed)]
+    wrong += [*lost_sections(listed), *untested_examples(listed), *files_of_one_name(listed), *unlisted_tests(listed), *lost_minutes(), *long_lines(listed)]
     print("\n".join(wrong) if wrong else "documents: each name that they have is there, each example is a part of a test, and no line is too long")
     return 1 if wrong else 0
 

@@ -1,9 +1,9 @@
 #!/bin/bash
 # The full test: `rt ci`, the toolchain's own, and what that can't do, over the libraries, the program and the tests that it has built:
 #   tests/full.sh
-# What the documents name is there, and what the toolchain prints is read as it should be. All other edits have to be
-# refused, each by the function that it names: they are tried beside `rt ci`, each crate's once that is done with the
-# crate. Then each growth of memory is refused, files are missing or directories, the man page and the completions are
+# What the documents name is there, what the toolchain prints is read as it should be, and the text that each edit changes is
+# there. All other edits have to be refused, each by the function that it names: they are tried beside `rt ci`, each crate's
+# once that is done with the crate. Then each growth of memory is refused, files are missing or directories, the man page and the completions are
 # compared with the help, the program's texts, streams and statuses with what they should be, the examples of the
 # documents and the workflow over them are run, and the Debian package is installed and removed. Where all of it passed,
 # the last line is `N passed, 0 failed`, N counting proofs and edits.
@@ -54,6 +54,7 @@ side_by_side() {
 }
 tests/documents.py
 tests/judging.py
+tools/check_edits.py
 link_what_is_kept &
 linking=$!
 touch "$work/ci"

@@ -1,8 +1,8 @@
 #!/bin/bash
 # Refuses each growth in turn, and looks at what is answered:
 #   tests/memory.sh
-# Each run of the program, a count over FASTA, over FASTQ and of listed k-mers, a merge, a histogram, statistics and a
-# query of a table, a selection of reads and two of pairs, either does without that growth and writes all that it should,
+# Each run of the program, a count over FASTA, over FASTQ and of listed k-mers, a merge, an intersection, a histogram,
+# statistics and a query of a table, a selection of reads and two of pairs, either does without that growth and writes all that it should,
 # or writes nothing (a selection the reads before), says on standard error that there is no memory, and ends with status
 # 1. Tickets, a growing table, a stripe and a gathering are asked the same by a test. It needs bin/kcount, the crates of
 # tests as built, and a C compiler.
@@ -61,6 +61,8 @@ refuse_growths 'a count of FASTQ' $'ACG 2\nGTA 1\n' '8 34 46' "$work/reads.fq" "
 refuse_growths 'a count of listed k-mers' $'ACG 2\n' '8 34 46' "$work/reads.fq" "${count[@]}" --only "$work/list.fa"
 refuse_growths 'a merge' $'KCT 2 3 c a 33 3\nAAA 4\nACG 2\nGTA 2\nEND 3 8\n' 46 /dev/null \
     merge "$work/first.kct" "$work/second.kct"
+refuse_growths 'an intersection' $'KCT 1 3 c\nGTA 1\nEND 1 1\n' 46 /dev/null \
+    intersect --take max "$work/first.kct" "$work/second.kct" "$work/first.kct"
 refuse_growths 'a histogram of a table' $'1 1\n2 1\n' 46 /dev/null histo "$work/first.kct"
 refuse_growths 'statistics of a table' $'Unique:    1\nDistinct:  2\nTotal:     3\nMax_count: 2\n' 46 /dev/null \
     stats "$work/first.kct"

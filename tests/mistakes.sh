@@ -243,6 +243,10 @@ closes $'1 read, 0 k-mers, 0 distinct\n'"$none" count -m 3 --only empty.fq reads
 closes '1 read, 1,197 k-mers, 4 distinct' count -m 4 thousand.fa
 closes '1 read, 3 k-mers, 3 distinct' count -m 3
 closes '6 k-mers, 3 distinct' merge three.kct three.kct
+closes '9 k-mers, 3 distinct' merge three.kct three.kct three.kct
+closes '3 k-mers, 3 distinct' intersect three.kct three.kct
+closes $'0 k-mers, 0 distinct\n'"$none" subtract three.kct three.kct
+closes '3 k-mers, 3 distinct' filter three.kct
 closes '1 of 1 read kept' select --min-count 1 three.kct reads.fa
 closes '0 of 1 read kept' select three.kct reads.fa
 closes '1 of 2 reads kept' select --min-count 1 three.kct reads.fa reads.fq
@@ -279,7 +283,7 @@ tips 'there is no Bloom filter: leave k-mers that occur once out by dump -L 2' "
 tips 'a histogram takes one thread' histo -t 4 three.kct
 tips 'statistics are those of all k-mers of the table' stats -L 2 three.kct
 tips 'the k-mers are given on the command line, for instance by xargs' query three.kct -s reads.fa
-tips 'merge adds two tables at a time' merge three.kct three.kct three.kct
+tips "Jellyfish's merge -L is kcount filter -L on the sum" merge -L 2 three.kct three.kct
 tips 'the first line of a table says how it was counted: head -n 1 TABLE' info three.kct
 tips "to pass '-3' as a value, use '-- -3'" count -m -3 reads.fa
 

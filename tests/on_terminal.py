@@ -12,13 +12,13 @@ import signal
 import sys
 import time
 
-MOST_SECONDS = 60
+MAX_SECONDS = 60
 
 
 def shown_by(terminal, prompt, typed):
     """All that is shown until every program has closed the terminal, or None where that takes too long."""
     shown = b""
-    deadline = time.monotonic() + MOST_SECONDS
+    deadline = time.monotonic() + MAX_SECONDS
     while time.monotonic() < deadline:
         if typed and prompt in shown:
             os.write(terminal, typed)
@@ -43,7 +43,7 @@ def main(command, prompt="", typed=""):
     shown = shown_by(terminal, prompt.encode(), typed.encode())
     if shown is None:
         os.kill(child, signal.SIGKILL)
-        sys.exit(f"{command} has not ended after {MOST_SECONDS} seconds")
+        sys.exit(f"{command} has not ended after {MAX_SECONDS} seconds")
     os.waitpid(child, 0)
     sys.stdout.buffer.write(shown)
 

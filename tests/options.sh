@@ -1,12 +1,27 @@
 #!/bin/bash
-# Compares the options of the man page and of the completions with those of the program's own help, command by command, so
-# that none is left out, and none is there that the program doesn't have. The man page has the program's version:
+# Compares the completions and the man page with the program's own help:
 #   tests/options.sh
-# It needs bin/kcount.
+# The completions in share/ have to be those that tools/completions.py writes. Command by command they have the options
+# of the help and no others; that for bash is run, also for values. The man page has the same commands and options, each
+# option with the same value, range and default (man_options.py), and the program's version. It needs bin/kcount.
 set -euo pipefail
 here=$(cd "$(dirname "$0")" && pwd)
 kcount=$here/../bin/kcount
 share=$here/../share
+[ -x "$kcount" ] || { echo "no bin/kcount: run make build first"; exit 1; }
+work=$(mktemp -d)
+trap 'rm -rf "$work"' EXIT
+
+same() {
+    [ "$2" = "$3" ] || { printf 'options: %s are not those that are wanted:\n' "$1"; diff <(echo "$3") <(echo "$2"); exit 1; }
+}
+
+# the completions are those of the help
+"$here/../tools/completions.py" "$work"
+diff -ru -x kcount.1 "$share" "$work" || {
+    echo "options: the completions in share/ are not those of the help: run make completions"
+    exit 1
+}
 
 # A list of options, each `-s, --long` or `--long` in a line, in order.
 in_order() {
@@ -15,65 +30,67 @@ in_order() {
 of_help() {
     "$kcount" "$1" --help | grep -oE '^ +(-[A-Za-z], )?--[a-z0-9-]+' | sed 's/^ *//' | in_order
 }
-# The page has a section for each command, and one for the options that all of them have.
-of_man() {
-    local section
-    for section in "${1^^}" 'OPTIONS OF EACH COMMAND'; do
-        awk -v section="$section" '/^\.SH / { inside = substr($0, 5) == section } inside && tag { print } { tag = $0 == ".TP" }' \
-            "$share/kcount.1"
-    done | sed 's/\\-/-/g; s/\\fI[A-Za-z]*\\fR//g' | grep -oE '(-[A-Za-z] ", " )?--[a-z0-9-]+' | grep -v -e --version | in_order
-}
-of_bash() {
+# What bash offers for the last of these words.
+offered() {
     # shellcheck disable=SC1091,SC2034
     (
         source "$share/kcount.bash"
-        COMP_WORDS=(kcount "$1" -) COMP_CWORD=2
+        COMP_WORDS=(kcount "$@") COMP_CWORD=$#
         _kcount
         printf '%s\n' "${COMPREPLY[@]}"
-    ) | awk '/^--/ { print short $0; short = ""; next } { short = $0 " " }' | in_order
+    )
+}
+of_bash() {
+    offered "$1" - | awk '/^--/ { print short $0; short = ""; next } { short = $0 " " }' | in_order
 }
 of_zsh() {
-    { sed -n "/^    $1=(/,/^    )/p" "$share/_kcount"; grep -x '    options=(.*)' "$share/_kcount"; } \
-        | grep -oE "\{-[A-Za-z],--[a-z0-9-]+\}|^ +'--[a-z0-9-]+" | tr -d "{}' " | in_order
+    sed -n "/^        $1)/,/;;$/p" "$share/_kcount" | grep -oE "\{-[A-Za-z]\+?,--[a-z0-9-]+|^ +'--[a-z0-9-]+" | tr -d "{+' " | in_order
 }
 of_fish() {
-    grep -E "^complete -c kcount (-n '__fish_seen_subcommand_from $1' |-s h )" "$share/kcount.fish" \
+    grep -F "'__fish_kcount_command $1'" "$share/kcount.fish" \
         | grep -oE '(-s [A-Za-z] )?-l [a-z0-9-]+' | sed -E 's/-s ([A-Za-z]) /-\1 /; s/-l /--/' | in_order
 }
 commands() {
     "$kcount" --help | awk '/^Commands:/ { inside = 1; next } /^$/ { inside = 0 } inside { print $1 }' | LC_ALL=C sort
 }
-same() {
-    [ "$2" = "$3" ] || { printf 'options: %s differ from the help:\n' "$1"; diff <(echo "$3") <(echo "$2"); exit 1; }
-}
-
-for command in $(commands); do
+names=$(commands)
+for command in $names; do
     [ "$command" != help ] || continue
     wanted=$(of_help "$command")
     [ -n "$wanted" ] || { echo "options: no option in the help of $command"; exit 1; }
-    for place in man bash zsh fish; do
-        same "those of $command for $place" "$("of_$place" "$command")" "$wanted"
+    for place in bash zsh fish; do
+        same "the options of $command for $place" "$("of_$place" "$command")" "$wanted"
     done
 done
 
 # the names of the commands
-names=$(commands)
-# shellcheck disable=SC1091,SC2034
-same 'commands for bash' "$(
-    source "$share/kcount.bash"
-    COMP_WORDS=(kcount '') COMP_CWORD=1
-    _kcount
-    printf '%s\n' "${COMPREPLY[@]}" | grep -v '^-' | LC_ALL=C sort
-)" "$names"
-same 'commands behind help for bash' "$(
-    source "$share/kcount.bash"
-    COMP_WORDS=(kcount help '') COMP_CWORD=2
-    _kcount
-    printf '%s\n' "${COMPREPLY[@]}" | LC_ALL=C sort
-)" "$names"
-same 'commands for zsh' "$(sed -n "/^    commands=(/,/^    )/s/^ *'\([a-z]*\):.*/\1/p" "$share/_kcount" | LC_ALL=C sort)" "$names"
-same 'commands for fish' "$(sed -n 's/.*__fish_use_subcommand -a \([a-z]*\) .*/\1/p' "$share/kcount.fish" | LC_ALL=C sort)" "$names"
-same 'commands for man' "$({ echo help; sed -n 's/^\.B kcount \([a-z]*\).*/\1/p' "$share/kcount.1"; } | LC_ALL=C sort -u)" "$names"
+same 'the commands for bash' "$(offered '' | grep -v '^-' | LC_ALL=C sort)" "$names"
+same 'the commands after help for bash' "$(offered help '' | LC_ALL=C sort)" "$names"
+same 'the commands for zsh' "$(sed -n "/^    commands=(/,/^    )/s/^ *'\([a-z]*\):.*/\1/p" "$share/_kcount" | LC_ALL=C sort)" "$names"
+same 'the commands for fish' "$(sed -n 's/.*__fish_kcount_command -f -a \([a-z]*\) .*/\1/p' "$share/kcount.fish" | LC_ALL=C sort)" "$names"
+same 'the commands in the man page' "$({ echo help; sed -n 's/^\.B kcount \([a-z]*\).*/\1/p' "$share/kcount.1"; } | LC_ALL=C sort -u)" "$names"
+
+# the values of options: of a list, files, or none (bash has the = of --option=value as a word)
+values() {
+    same "the values after ${*:2} for bash" "$(offered "${@:2}" | paste -sd ' ')" "$1"
+}
+mkdir "$work/here"
+touch "$work/here/reads.fa" "$work/here/-x"
+cd "$work/here"
+values 'table dump histo stats' count --print ''
+values 'table dump histo stats' count --print =
+values 'dump' count --print = d
+values '1 2 4 8 16 32 64' count --stripes ''
+values 'both any' select --keep ''
+values 'reads.fa' count -o r
+values '-x' count --only -
+values 'reads.fa' select --output2 = r
+values '' count -t ''
+values 'reads.fa' dump -t r
+values '' select --min-share =
+
+# the options of the man page
+"$here/man_options.py"
 
 # no line of help is wider than a terminal
 for command in '' $names; do

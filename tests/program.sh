@@ -73,7 +73,7 @@ printf '%s' "$older" > older.kct
 more=$'\nFor more information, try \'--help\'.\n'
 usage=$'\nUsage: kcount <COMMAND>\n'
 usage_of_count=$'\nUsage: kcount count [OPTIONS] [FILE]...\n'
-usage_of_merge=$'\nUsage: kcount merge <FIRST> <SECOND>\n'
+usage_of_merge=$'\nUsage: kcount merge <FIRST> <SECOND>...\n'
 usage_of_select=$'\nUsage: kcount select <TABLE> [FILE]...\n'
 usage_of_profile=$'\nUsage: kcount profile <TABLE> [FILE]...\n'
 
@@ -87,7 +87,7 @@ helps() {
 helps kcount --help
 helps kcount -h
 helps kcount help
-for command in count dump histo stats query merge select profile; do
+for command in count dump histo stats query merge intersect subtract filter select profile; do
     helps "$command" "$command" --help
     helps "$command" "$command" -h
     helps "$command" help "$command"
@@ -102,7 +102,7 @@ refuses() {
     shift
     wants 2 '' "error: $text$more" "$reads" kcount "$@"
 }
-refuses $'\'kcount\' requires a subcommand but one was not provided\n  [subcommands: count, dump, histo, stats, query, merge, select, profile, help]\n'"$usage"
+refuses $'\'kcount\' requires a subcommand but one was not provided\n  [subcommands: count, dump, histo, stats, query, merge, intersect, subtract, filter, select, profile, help]\n'"$usage"
 refuses $'unrecognized subcommand \'frob\'\n'"$usage" frob
 refuses $'unrecognized subcommand \'frob\'\n'"$usage" frob --help
 refuses $'unrecognized subcommand \'coun\'\n\n  tip: a similar subcommand exists: \'count\'\n'"$usage" coun -m 3
@@ -118,10 +118,17 @@ refuses $'unexpected argument \'--frob\' found\n\n  tip: to pass \'--frob\' as a
 refuses $'unexpected argument \'b\' found\n\nUsage: kcount stats [OPTIONS] [FILE]\n' stats a b
 refuses $'the following required arguments were not provided:\n  <TABLE>\n  <WORD>...\n\nUsage: kcount query <TABLE> <WORD>...\n' query
 refuses $'the following required arguments were not provided:\n  <WORD>...\n\nUsage: kcount query <TABLE> <WORD>...\n' query two.kct
-refuses $'the following required arguments were not provided:\n  <FIRST>\n  <SECOND>\n'"$usage_of_merge" merge
-refuses $'the following required arguments were not provided:\n  <SECOND>\n'"$usage_of_merge" merge two.kct
-refuses $'unexpected argument \'c\' found\n\n  tip: merge adds two tables at a time\n\nUsage: kcount merge [OPTIONS] <FIRST> <SECOND>\n' merge two.kct two.kct c
-refuses $'unexpected argument \'-C\' found\n\n  tip: to pass \'-C\' as a value, use \'-- -C\'\n\nUsage: kcount merge [OPTIONS] <FIRST> <SECOND>\n' merge -C two.kct two.kct
+refuses $'the following required arguments were not provided:\n  <FIRST>\n  <SECOND>...\n'"$usage_of_merge" merge
+refuses $'the following required arguments were not provided:\n  <SECOND>...\n'"$usage_of_merge" merge two.kct
+for command in merge intersect subtract; do
+    tables=$(printf 'two.kct %.0s' {1..64})
+    refuses $'at most 64 tables can be combined\n\nUsage: kcount '"$command"$' [OPTIONS] <FIRST> <SECOND>...\n' "$command" $tables missing
+done
+refuses $'the following required arguments were not provided:\n  <SECOND>...\n\nUsage: kcount intersect <FIRST> <SECOND>...\n' intersect two.kct
+refuses $'the following required arguments were not provided:\n  <SECOND>...\n\nUsage: kcount subtract <FIRST> <SECOND>...\n' subtract two.kct
+refuses $'a value is required for \'--take <WHICH>\' but none was supplied\n' intersect two.kct two.kct --take
+refuses $'unexpected argument \'b\' found\n\nUsage: kcount filter [OPTIONS] [FILE]\n' filter a b
+refuses $'unexpected argument \'-C\' found\n\n  tip: to pass \'-C\' as a value, use \'-- -C\'\n\nUsage: kcount merge [OPTIONS] <FIRST> <SECOND>...\n' merge -C two.kct two.kct
 refuses $'the following required arguments were not provided:\n  <TABLE>\n'"$usage_of_select" select
 refuses $'the following required arguments were not provided:\n  <TABLE>\n'"$usage_of_profile" profile
 refuses $'a value is required for \'--min-share <P>\' but none was supplied\n' select two.kct --min-share
@@ -230,6 +237,8 @@ ranges count upper-count '0 to 2^62' "$one" "$one"
 ranges count high '1 to 10000000' "$one" "$one"
 ranges dump lower-count '0 to 2^62' "$dump" ''
 ranges dump upper-count '0 to 2^62' '' "$dump"
+ranges filter lower-count '0 to 2^62' "$older" "${older/ACG*/END 0 0$'\n'}"
+ranges filter upper-count '0 to 2^62' "${older/ACG*/END 0 0$'\n'}" "$older"
 ranges histo high '1 to 10000000' "$histo" "$histo"
 ranges select min-count '0 to 2^62' "$reads" ''
 ranges select max-count '0 to 2^62' '' ''
@@ -384,6 +393,53 @@ unlike '62: sums too large' "$most" "$old"
 unlike '62: sums too large' "$many_reads" "$acg"
 unlike '61: tables do not match' "$most" "${acg/3 s/3 c}"
 unlike '61: tables do not match' "$many_reads" "${acg/33/34}"
+
+# Any number of tables are merged, and combined in other ways. The result of another way is of version 1.
+printf '%s' "$one" > one.kct
+printf '%s' "$acg" > acg.kct
+merged=$'KCT 2 3 s a 33 3\nACG 3\nCGT 1\nGTA 1\nEND 3 5\n'
+shared=$'KCT 1 3 s\nACG 1\nEND 1 1\n'
+nothing=$'KCT 1 3 s\nEND 0 0\n'
+three_times=$'KCT 1 3 s\nACG 3\nEND 1 3\n'
+wants 0 "$merged" '' '' kcount merge one.kct acg.kct acg.kct
+wants 0 "$merged" '' '' kcount merge acg.kct acg.kct one.kct
+printf '%s' "$merged" > merged.kct
+# shellcheck disable=SC2046
+wants 0 $'KCT 2 3 s a 33 64\nACG 64\nEND 1 64\n' '' '' kcount merge $(printf 'acg.kct %.0s' {1..64})
+wants 0 "$shared" '' '' kcount intersect one.kct acg.kct
+wants 0 "$shared" '' '' kcount intersect acg.kct merged.kct one.kct
+wants 0 "$three_times" '' '' kcount intersect --take max acg.kct merged.kct one.kct
+wants 0 $'KCT 1 3 s\nACG 5\nEND 1 5\n' '' '' kcount intersect --take sum acg.kct merged.kct one.kct
+wants 0 "$three_times" '' '' kcount intersect --take first merged.kct acg.kct
+wants 0 $'KCT 1 3 s\nCGT 1\nGTA 1\nEND 2 2\n' '' '' kcount subtract one.kct acg.kct
+wants 0 "$nothing" '' '' kcount subtract one.kct one.kct
+wants 0 $'KCT 1 3 s\nACG 2\nEND 1 2\n' '' '' kcount subtract --counts merged.kct one.kct
+wants 0 $'KCT 1 3 s\nACG 1\nEND 1 1\n' '' '' kcount subtract --counts merged.kct one.kct acg.kct
+wants 0 "$three_times" '' '' kcount filter -L 2 merged.kct
+wants 0 "$three_times" '' "$merged" kcount filter --lower-count 2
+wants 0 $'KCT 1 3 s\nCGT 1\nGTA 1\nEND 2 2\n' '' '' kcount filter -U 2 merged.kct
+wants 0 $'KCT 1 3 s\nACG 3\nCGT 1\nGTA 1\nEND 3 5\n' '' '' kcount filter merged.kct
+wants 0 "$nothing" '' '' kcount filter -L 3 -U 2 merged.kct
+# the strands and the length have to be those of all tables, and other options need not
+printf '%s' "${acg/3 s/3 c}" > canonical.kct
+printf '%s' "${acg/ a 33/ o 35}" > listed.kct
+for command in merge intersect subtract; do
+    fault 1 '61: tables do not match' '' kcount "$command" one.kct acg.kct canonical.kct
+    fault 1 '61: tables do not match' '' kcount "$command" canonical.kct one.kct
+    fault 1 '41: bad header' '' kcount "$command" one.kct canonical.kct reads.fa
+    fault 1 '45: table read failed' '' kcount "$command" one.kct a-directory reads.fa
+    fault 1 '54: cannot open missing' '' kcount "$command" reads.fa one.kct missing
+done
+wants 0 "$shared" '' '' kcount intersect one.kct listed.kct
+wants 0 "$nothing" '' '' kcount subtract listed.kct one.kct
+fault 1 '61: tables do not match' '' kcount merge one.kct listed.kct
+# a count or a total above 2^62 is refused
+printf '%s' "$most" > most.kct
+fault 1 '62: sums too large' '' kcount merge most.kct acg.kct acg.kct
+fault 1 '62: sums too large' '' kcount intersect --take sum most.kct acg.kct
+fault 2 '51: bad option --take' '' kcount intersect --take least one.kct acg.kct
+fault 2 '51: bad option --take' '' kcount intersect --take '' missing missing
+fault 2 '51: bad option --lower-count' '' kcount filter -U x -L y missing
 
 # A row takes one word of 64 bits, and a count that does not fit beside its word stands apart. Beside a word of 31 bases
 # some counts of a thousand don't.
@@ -648,6 +704,8 @@ for name in - "$long" 'a b' 'é'; do
     fault 1 "54: cannot open $name" "$reads" kcount count -m 3 --only "$name"
     fault 1 "54: cannot open $name" "$table" kcount merge "$name" two.kct
     fault 1 "54: cannot open $name" "$table" kcount merge two.kct "$name"
+    fault 1 "54: cannot open $name" "$table" kcount subtract two.kct two.kct "$name"
+    fault 1 "54: cannot open $name" "$table" kcount filter "$name"
     fault 1 "54: cannot open $name" "$reads" kcount select "$name"
     fault 1 "54: cannot open $name" "$reads" kcount select two.kct reads.fa "$name"
     fault 1 "54: cannot open $name" "$reads" kcount profile "$name"
@@ -714,6 +772,8 @@ no_table() {
     fault 1 "$line" "$table" kcount query no.kct N
     fault 1 "$line" '' kcount merge no.kct a-directory
     fault 1 "$line" '' kcount merge two.kct no.kct
+    fault 1 "$line" '' kcount intersect two.kct two.kct no.kct
+    fault 1 "$line" '' kcount filter no.kct
     fault 1 "$line" '' kcount select no.kct a-directory
     fault 1 "$line" '' kcount profile no.kct a-directory
 }

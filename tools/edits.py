@@ -37,7 +37,7 @@ from judging import text_of
 
 FOLDER = "edits"
 # How many edits a check has at the most: those of any crate today, since what a check loads is paid once then.
-MOST = 96
+MAX_GROUP = 96
 
 
 @dataclass
@@ -123,7 +123,7 @@ def grouped(edits):
     """Returns the edits in groups, each edit in the first one where it goes with all, the smallest group first."""
     groups = []
     for edit in edits:
-        fits = (it for it in groups if len(it) < MOST and all(edit.goes_with(other) for other in it))
+        fits = (it for it in groups if len(it) < MAX_GROUP and all(edit.goes_with(other) for other in it))
         group = next(fits, None)
         if group is None:
             groups.append(group := [])

@@ -1,4 +1,4 @@
--- How many counts are at least so great: how this is read, what moves it, and the bins that follow.
+-- How many counts are at least c, for each c: how this is read, what changes it, and the bins that follow.
 use Rattle.std.proofs.Common.{◌≡◌, ℕ, ◌+◌, ◌-◌, ◌<◌, ◌≤◌, ⊎_elim, Bool, cond, eqb, leb, List, [], ◌∷◌, ◌++◌, length, get_or, set, sum_by, refl, ap, sym, ◌∙◌, subst, arith, eq-eqb, ne_eqb, length-set, replicate}
 use Rattle.std.proofs.lemmas.Bool.{cases_eq, cases_lt, cond-true, cond-false, le-leb}
 use Rattle.std.proofs.lemmas.Bool.Decides.{nat_tests}
@@ -10,11 +10,11 @@ use Rattle.kc_tally.specs.Histogram.{last_bin, bin_of, bin_size, bins_of}
 use Rattle.kc_tally.proofs.Bins.{IsOneMore, bins_of-from, one_at}
 use Rattle.kc_booking.specs.AtLeast.{at_least, at_least_of, number_at, difference_at, bins_from, changed, risen, fallen}
 
--- 1 where the count is at least c
+-- 1 if the count is at least c
 abbrev from_on : ℕ → ℕ → ℕ
 from_on c count = cond (leb c count) 1 0
 
--- one thing is counted where two numbers are the same, and none where they are not
+-- one item is counted if two numbers are equal, and none if they are not
 pub one-same : (a b : ℕ) → a ≡ b → cond {A = ℕ} (eqb a b) 1 0 ≡ 1
 one-same a b same = ap (λ (t : Bool). cond {A = ℕ} t 1 0) (eq-eqb a b same)
 
@@ -134,7 +134,7 @@ bins_from-all numbers sizes long each =
     ext_get_or 0 sizes (bins_from numbers) (long ∙ sym (length-bins_from numbers))
     (λ i within. let small : i < last_bin = omega (arith, within, long) in each i small ∙ sym (get_or-bins_from numbers i small))
 
--- one size more
+-- one more size
 pub sizes-more : (f : ℕ → ℕ) (sizes new : List ℕ) (i size : ℕ) → new ≡ sizes ++ size ∷ [] → length sizes ≡ i → size ≡ f i
     → ((k : ℕ) → k < i → get_or sizes k 0 ≡ f k) → (k : ℕ) → k < i + 1 → get_or new k 0 ≡ f k
 sizes-more f sizes new i size pushed long is each k below =
@@ -146,7 +146,7 @@ sizes-more f sizes new i size pushed long is each k below =
     ap (λ n. get_or (sizes ++ size ∷ []) n 0) here ∙ get_or-append-add sizes (size ∷ []) 0 0 ∙ is ∙ ap f same)
     (cases_lt k i)
 
--- ---- one number more, and less
+-- ---- one more number, and less
 
 pub changed-beyond : (f : ℕ → ℕ) (numbers : List ℕ) (count : ℕ) → last_bin < count → numbers ≡ changed f numbers count
 unfolding changed
@@ -186,7 +186,7 @@ at_least-more : (old new : List ℕ) (count c : ℕ) → IsOneMore old new count
 unfolding at_least
 at_least-more old new count c more = omega (arith, more (from_on c), from_on-more c count)
 
--- the numbers of counts of which others are at least so great as one number, and as many at least as any other
+-- lists whose numbers differ at one count only: the numbers of the one are those of the other, changed there
 at_least_of-changed : (f : ℕ → ℕ) (old new : List ℕ) (count : ℕ) → f (at_least old (count + 1)) ≡ at_least new (count + 1)
     → ((c : ℕ) → (c ≡ count + 1 → ⊥) → at_least old c ≡ at_least new c)
     → changed f (at_least_of old) (count + 1) ≡ at_least_of new

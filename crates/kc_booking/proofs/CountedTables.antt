@@ -53,7 +53,7 @@ changed_at h f g q (suc n) kept below =
     omega arith)
     (cases_eq q n))
 
--- a key's count one more, where the others stay, is one of the counts one more
+-- a key's count one more, if the others stay, is one of the counts one more
 IsOneMore-key : (bits : ℕ) (m n : KeyCounts) (q count : ℕ) → ((x : ℕ) → x ≢ q → count_at n x ≡ count_at m x) → count_at m q ≡ count
     → count_at n q ≡ count + 1 → q < 2 ^ bits → IsOneMore (counts_of bits m) (counts_of bits n) count
 IsOneMore-key bits m n q count kept was is below h =
@@ -73,7 +73,7 @@ IsOneMore-reduced bits m q below some =
 
 -- ---- what is kept
 
--- numbers and total of the counts tell of them
+-- the numbers and the total are those of the counts
 IsTold-from : (bits : ℕ) (m : KeyCounts) (numbers : List ℕ) (total : ℕ) → bits ≤ 62 → numbers ≡ at_least_of (counts_of bits m) → total ≡ sum (counts_of bits m)
     → total ≤ 2 ^ 62 → IsTold bits m numbers total
 IsTold-from bits m numbers total narrow are sums small = record {
@@ -117,7 +117,7 @@ count_at-at_most bits m bins total q counted below =
 
 -- ---- a count one more
 
--- a key of a table whose numbers are told
+-- a key of a table with its numbers
 pub record IsToldOf (bits : ℕ) (m : KeyCounts) (numbers : List ℕ) (total q : ℕ) : Type 0 where
   pub told : IsTold bits m numbers total
   pub below : q < 2 ^ bits
@@ -176,7 +176,7 @@ KeepsLimits-then bits full old table new first second = record {
 pub all_added-more : (m : KeyCounts) (keys : List ℕ) (i d : ℕ) → i < length keys → all_added m (take (i + 1) keys) ≡ added (all_added m (take i keys)) (get_or keys i d)
 all_added-more m keys i d within = fold_more added m keys i d within
 
--- each key counts as often more as it stands among the keys
+-- each key's count grows by its occurrences among the keys
 pub count_at-all_added : (keys : List ℕ) (m : KeyCounts) (q : ℕ) → count_at (all_added m keys) q ≡ count_at m q + count_by (λ key. eqb key q) keys
 count_at-all_added [] m q = omega arith
 count_at-all_added (key ∷ keys) m q =

@@ -51,7 +51,7 @@ pub few_stripe_bits : (stripes b : ℕ) → stripes ≤ 64 → 2 ^ b ≤ stripes
 few_stripe_bits stripes b few low =
     ⊎_elim (λ (more : 6 < b). absurd (let past = pow_below 6 b more in omega arith)) (λ most. most) (cases_lt 6 b)
 
--- what is known of the arguments where they are looked at: the hash's bits n, the bits w of a word, and the logarithm b of
+-- what is known of the arguments if they are looked at: the hash's bits n, the bits w of a word, and the logarithm b of
 -- the number of stripes
 pub record IsLookedAt (rule : CountingRule) (hash : List ℕ) (stripes n w b : ℕ) : Type 0 where
   pub hash_bits : n ≡ length hash
@@ -80,7 +80,7 @@ no_setup-few rule hash stripes n w b seen more is =
     let low = seen.low in
     omega arith
 
--- what is found of them where there is a setup
+-- what is found of them if there is a setup
 pub record IsFoundRight (stripes n w b : ℕ) : Type 0 where
   pub whole : n ≡ w
   pub power : stripes ≡ 1 * 2 ^ b % 2 ^ 32
@@ -105,7 +105,7 @@ hash_value-joined k s stripe key few low high =
     let placed : key * 2 ^ s + stripe < 2 ^ s * 2 ^ (2 * k - s) = mul-add-lt key (2 ^ s) stripe (2 ^ (2 * k - s)) high low in
     subst (λ m. key * 2 ^ s + stripe < 2 ^ m) same (omega arith)
 
--- where the word of a stripe and a key is asked for: both are small enough
+-- if the word of a stripe and a key is asked for: both are small enough
 pub record IsAskedFor (setup : StripeSetup) (stripe key : ℕ) : Type 0 where
   pub bits : HasBits setup.rule.k setup.hash setup.stripe_bits
   pub stripe_fits : stripe < 2 ^ setup.stripe_bits

@@ -1,4 +1,4 @@
--- Vectors that are kept from one round to the next: what stands at each place, and what room it has.
+-- Vectors that are kept from one round to the next: the contents and the capacity at each place.
 use Rattle.std.proofs.Common.{vec_capacity, ◌≡◌, ◌≢◌, ℕ, zero, suc, ◌+◌, ◌/◌, ◌%◌, ◌^◌, ◌<◌, ◌≤◌, max, cond, List, [], ◌∷◌, ◌++◌, length, get_or, set, take, map, filter, count_by, Vec, Global, append-nil, append_assoc, refl, ap, ap₂, sym, ◌∙◌, arith, ⊎_elim}
 use Rattle.std.proofs.Math.Seq.{map-set_same}
 use Rattle.std.proofs.lemmas.Bool.{cases_eq, cases_lt}
@@ -74,7 +74,7 @@ stripe_keys-fewer s stripe hash_values i =
     let all = stripe_keys-long s stripe hash_values in
     omega (arith, some, all, sum_by-take-le (λ value. cond (falls_in s stripe value) 1 0) hash_values i)
 
--- ---- the keys of the first i hash values are put behind those of their stripes
+-- ---- the keys of the first i hash values are appended to those of their stripes
 
 pub record ArePushedTo (s : ℕ) (hash_values : List ℕ) (old new : List (Vec ℕ Global)) (i : ℕ) : Type 0 where
   pub all : length new ≡ length old
@@ -84,7 +84,7 @@ pub record ArePushedTo (s : ℕ) (hash_values : List ℕ) (old new : List (Vec �
 pub ArePushedTo-none : (s : ℕ) (hash_values : List ℕ) (old : List (Vec ℕ Global)) → ArePushedTo s hash_values old old 0
 ArePushedTo-none s hash_values old = record { all = refl; keys = λ stripe below. sym (append-nil (items_at old stripe)); rooms = refl }
 
--- one key more is put behind those of its stripe
+-- one more key is appended to those of its stripe
 pub record KeyStep (s : ℕ) (hash_values : List ℕ) (now : List (Vec ℕ Global)) (i : ℕ) : Type 0 where
   pub stripe : ℕ
   pub key : ℕ
@@ -166,7 +166,7 @@ AreClearedTo-all {T} {old} {now} {i} so_far end place = ⊎_elim
     (λ (past : i ≤ place). items_at-past now place (omega arith))
     (cases_lt place i)
 
--- behind a list stands what is answered where nothing stands
+-- the element after a list, with a default
 get_or-push_default : {X : Type 0} (xs : List X) (i : ℕ) (d : X) → get_or (xs ++ d ∷ []) i d ≡ get_or xs i d
 get_or-push_default [] zero d = refl
 get_or-push_default [] (suc i) d = refl
@@ -183,7 +183,7 @@ empty-push {T} now new vec is none so_far place =
 
 -- ---- room is made in each vector
 
--- what they hold is as before, and what room they have is bounded
+-- the contents are unchanged, and the capacities are bounded
 pub record AreGrown {T : Type 0} (old now : List (Vec T Global)) (more : List ℕ) : Type 0 where
   pub all : length now ≡ length old
   pub same : (place : ℕ) → items_at now place ≡ items_at old place
@@ -234,9 +234,9 @@ HaveRoomTo-more {T} {old} {now} {more} {i} step grown room so_far place less = �
     (λ (apart : place ≢ i). rw (room_at-other now i place step.new apart) (so_far place (omega arith)))
     (cases_eq place i)
 
--- ---- one size more in each vector
+-- ---- one more size in each vector
 
--- the first i vectors have one size more
+-- the first i vectors have one more size
 pub record HaveSizeTo (sizes : List ℕ) (old now : List (Vec ℕ Global)) (i : ℕ) : Type 0 where
   pub all : length now ≡ length old
   pub done : (place : ℕ) → place < i → items_at now place ≡ items_at old place ++ get_or sizes place 0 ∷ []

@@ -1,4 +1,4 @@
--- A lawful stripe: when nothing was booked, and when one batch more is booked.
+-- A lawful stripe: when nothing was booked, and when one more batch is booked.
 use Rattle.std.proofs.Common.{◌≡◌, ◌≢◌, ℕ, ◌+◌, ◌<◌, ◌^◌, Bool, true, false, cond, ◌||◌, eqb, nat_eq, List, [], ◌∷◌, ◌++◌, get_or, filter, sum, sum_by, count_by, All, append-nil, refl, ap, sym, subst, ◌∙◌, arith, ⊎_elim}
 use Rattle.std.specs.Bool.{MatchBool}
 use Rattle.std.specs.List.{range_with_len, list_any, IsDistinct}
@@ -39,7 +39,7 @@ record IsOnlyWord (setup : StripeSetup) (number key found : ℕ) : Type 0 where
   pub divided : DividesWords setup
   pub at : StandsAt setup number key found
 
--- a word below 4 ^ k has the stripe and the key exactly where it is the one that has
+-- a word below 4 ^ k has the stripe and the key exactly if it is the one that has
 same_word : (setup : StripeSetup) (number key found word weight : ℕ) → IsOnlyWord setup number key found → word < word_count setup
     → cond (eqb (stripe_of setup word) number) (cond (eqb (key_of setup word) key) weight 0) 0 ≡ cond (eqb found word) weight 0
 same_word setup number key found word weight one below =
@@ -99,7 +99,7 @@ weighed-by_keys setup number h divided own =
 
 -- ---- lawful by what the table counts
 
--- under the key of each word of the stripe stands how often it occurs
+-- the count under the key of each word of the stripe is the number of its occurrences
 abbrev pub CountsWords : StripeSetup → ℕ → List NumberedPieces → KeyCounts → Type 0
 CountsWords setup number journal counts =
     (word : ℕ) → word < word_count setup → stripe_of setup word ≡ number → count_at counts (key_of setup word) ≡ word_occurrences setup journal word
@@ -140,13 +140,13 @@ pub IsLawful-none : {setup : StripeSetup} {number : ℕ} {bits : ℕ} {known : �
 unfolding IsDistinct
 IsLawful-none {setup} {number} {bits} {known} {counts} kept counted none = IsLawful-from kept counted tt (CountsWords-none setup number counts none)
 
--- ---- one batch more
+-- ---- one more batch
 
 reads_in-push : (journal : List NumberedPieces) (batch : NumberedPieces) → reads_in (journal ++ batch ∷ []) ≡ reads_in journal ++ as_reads batch.pieces
 reads_in-push journal batch =
     flat_map-append (λ (b : NumberedPieces). as_reads b.pieces) journal (batch ∷ []) ∙ ap (λ reads. reads_in journal ++ reads) (append-nil (as_reads batch.pieces))
 
--- a word of the stripe stands as often among the words of a batch as its key among the keys of the cut
+-- a word of the stripe occurs among the words of a batch as often as its key among the keys of the cut
 key_times : (setup : StripeSetup) (number word : ℕ) (words : List ℕ) → DividesWords setup → word < word_count setup → stripe_of setup word ≡ number
     → All (λ w. w < word_count setup) words → count_by (λ key. eqb key (key_of setup word)) (keys_among setup number words) ≡ count_by (λ w. eqb w word) words
 key_times setup number word words divided below in_stripe small =
@@ -168,7 +168,7 @@ pub record WordLaws : Type 0 where
   pub joined : JoinedOccurrences
   pub below : WordsAreBelow
 
--- a word of the stripe occurs as often more as its key stands among the keys of one cut more
+-- with one more cut, the occurrences of a word of the stripe grow by those of its key among the cut's keys
 pub occurrences-more : (setup : StripeSetup) (number word : ℕ) (journal : List NumberedPieces) (batch : NumberedPieces) → WordLaws → DividesWords setup
     → word < word_count setup → stripe_of setup word ≡ number
     → word_occurrences setup (journal ++ batch ∷ []) word
@@ -197,7 +197,7 @@ known-none keys n none = ap (list_any (nat_eq n)) none
 pub numbers_of-push : (journal : List NumberedPieces) (batch : NumberedPieces) → numbers_of (journal ++ batch ∷ []) ≡ numbers_of journal ++ batch.number ∷ []
 numbers_of-push journal batch = map_push (λ (b : NumberedPieces). b.number) journal batch
 
--- one number more is known
+-- one more number is known
 pub known-more : (journal : List NumberedPieces) (batch : NumberedPieces) (old new : ℕ → Bool) → ((n : ℕ) → old n ≡ list_any (nat_eq n) (numbers_of journal))
     → ((n : ℕ) → new n ≡ cond (nat_eq batch.number n) true (old n)) → (n : ℕ) → new n ≡ list_any (nat_eq n) (numbers_of (journal ++ batch ∷ []))
 known-more journal batch old new known updated n =
@@ -221,7 +221,7 @@ pub numbers_differ-more : (journal : List NumberedPieces) (batch : NumberedPiece
 numbers_differ-more journal batch distinct new =
     rw (numbers_of-push journal batch) (IsDistinct-push_new nat_eq eqb_tells (numbers_of journal) batch.number distinct new)
 
--- what the test of a batch's number tells
+-- the result of the test of a batch's number
 pub booked-told : (journal : List NumberedPieces) {n number : ℕ} (found : Bool) → found ≡ list_any (nat_eq n) (numbers_of journal)
     → n ≡ number → MatchBool found (IsBooked journal number) (¬ IsBooked journal number)
 booked-told journal {n} true is same = subst (IsBooked journal) same (Contains-from_any eqb-true n (numbers_of journal) (sym is))

@@ -70,13 +70,13 @@ other_setup setup other differ same = true≢false (differ ∙ ap not (is_same_s
 
 -- ---- the words that count
 
--- where no list is given, all words do
+-- if no list is given, all words do
 pub all-count : (rule : CountingRule) (reads : List Read) (words : List ℕ) → rule.only ≡ None → words ≡ words_of (without_list rule) reads
     → words ≡ words_of rule reads
 all-count rule reads words none is =
     is ∙ (λ i. words_of (record { k = rule.k; both = rule.both; floor = rule.floor; only = sym none i }) reads)
 
--- where one is given, the listed words do
+-- if one is given, the listed words do
 pub listed-count : (rule : CountingRule) (reads : List Read) (words kept list : List ℕ) → ListedWords → rule.only ≡ Some list
     → words ≡ words_of (without_list rule) reads → kept ≡ filter (is_listed (Some list)) words → kept ≡ words_of rule reads
 listed-count rule reads words kept list law only is filtered =

@@ -5,7 +5,7 @@ use Rattle.std.proofs.lemmas.Nat.{div_below, le-div, pow_pos, pow-add}
 use Rattle.std.proofs.Math.Nat.{pow-le-pow_right}
 use Rattle.kc_booking.specs.Tables.{IsLeastLog}
 
--- where a size is within so many slots, the last of them is in one of so many parts
+-- if a size is within so many slots, the last of them is in one of so many parts
 enough : (size stripes slots : ℕ) → 1 ≤ stripes → (size - 1) / stripes < slots → size ≤ slots * stripes
 enough size stripes slots some below =
     ⊎_elim

@@ -12,7 +12,7 @@ use Rattle.kc_booking.proofs.HashValues.{low-bits, stripes-few, word-fits}
 
 -- ---- a function applied in place
 
--- the first i elements are mapped, the later ones are as they were
+-- the first i elements are mapped, the later ones are unchanged
 pub record IsMappedTo (f : ℕ → ℕ) (old new : List ℕ) (i : ℕ) : Type 0 where
   pub long : length new ≡ length old
   pub done : (k : ℕ) → k < i → get_or new k 0 ≡ f (get_or old k 0)
@@ -35,7 +35,7 @@ IsMappedTo-all f old new i end so_far =
     ext_get_or 0 new (map f old) (so_far.long ∙ sym (length-map old f))
     (λ k h. so_far.done k (omega arith) ∙ sym (get_or-map f old k 0 0 (let e = so_far.long in omega arith)))
 
--- ---- where a hash value falls
+-- ---- the stripe of a hash value
 
 -- the hash value's low bits
 abbrev pub falls_in : ℕ → ℕ → ℕ → Bool
@@ -68,7 +68,7 @@ filter-map_after p f (x ∷ xs) =
     by true ys = refl
     by false ys = refl
 
--- words that are to be hashed, with the rule and the tables that the program has
+-- words that will be hashed, with the rule and the tables of the program
 pub record HashCall (setup : StripeSetup) : Type 0 where
   pub rule : CountingRule
   pub words : List ℕ

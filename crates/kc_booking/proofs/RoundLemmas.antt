@@ -29,7 +29,7 @@ use Rattle.kc_booking.proofs.Lawful.{CountsWords, WordLaws, occurrences-more, ke
 
 -- ---- the keys of several batches
 
--- the keys of one batch more stand behind those of the others
+-- the keys of one more batch follow those of the others
 pub all_keys-more : (setup : StripeSetup) (stripe : ℕ) (batches : List NumberedPieces) (batch : NumberedPieces)
     → all_keys_of (round_at setup (batches ++ batch ∷ []) stripe) ≡ all_keys_of (round_at setup batches stripe) ++ keys_of (cut_at setup batch stripe)
 all_keys-more setup stripe batches batch =
@@ -37,14 +37,14 @@ all_keys-more setup stripe batches batch =
     ∙ flat_map-append keys_of (cuts_in (round_at setup batches stripe)) (cut_at setup batch stripe ∷ [])
     ∙ ap (λ (keys : List ℕ). all_keys_of (round_at setup batches stripe) ++ keys) (append-nil (keys_of (cut_at setup batch stripe)))
 
--- and how many there are behind how many the others have
+-- and how many there are, after those that the others have
 pub sizes-more : (setup : StripeSetup) (stripe : ℕ) (batches : List NumberedPieces) (batch : NumberedPieces)
     → sizes_of (round_at setup (batches ++ batch ∷ []) stripe) ≡ sizes_of (round_at setup batches stripe) ++ length (keys_of (cut_at setup batch stripe)) ∷ []
 sizes-more setup stripe batches batch =
     ap (map (λ (cut : StripeCut). length (keys_of cut))) (map_push (λ (b : NumberedPieces). cut_at setup b stripe) batches batch)
     ∙ map_push (λ (cut : StripeCut). length (keys_of cut)) (cuts_in (round_at setup batches stripe)) (cut_at setup batch stripe)
 
--- the hash values of a batch's words that fall in a stripe have the keys of its cut, and are so many
+-- the hash values of a batch's words that belong to a stripe have the keys of its cut, and there are as many
 pub batch-keys : (setup : StripeSetup) (stripe : ℕ) (batch : NumberedPieces)
     → stripe_keys setup.stripe_bits stripe (batch_hash_values setup batch) ≡ keys_of (cut_at setup batch stripe)
 batch-keys setup stripe batch = keys_in-hashed setup stripe (words_of setup.rule (as_reads batch.pieces))
@@ -56,7 +56,7 @@ batch-size setup stripe batch =
     ∙ length-filter (falls_in setup.stripe_bits stripe) (batch_hash_values setup batch))
     ∙ ap length (batch-keys setup stripe batch)
 
--- ---- lists whose keys differ, put together
+-- ---- joined lists with different keys
 
 module _ {K : Type 0} (equal : K → K → Bool) (tells : (x y : K) → ((equal x y ≡ true) × (x ≡ y)) ⊎ ((equal x y ≡ false) × (x ≢ y))) where
   pub IsDistinct-append_right : (xs ys : List K) → IsDistinct equal (xs ++ ys) → IsDistinct equal ys
@@ -111,7 +111,7 @@ booked_before journal batches i batch at booked differ =
     (subst (IsDistinct nat_eq) (numbers_of-append journal batches) differ) booked
     (Contains-map (λ (b : NumberedPieces). b.number) batches batch (i, at.within, sym at.is))
 
--- a batch whose number stands before it
+-- a batch with its number before it
 pub stands_before : (batches : List NumberedPieces) (i : ℕ) (batch : NumberedPieces) → IsBatchAt batches i batch → IsBooked (take i batches) batch.number
     → ¬ NumbersDiffer batches
 stands_before batches i batch at booked =
@@ -123,7 +123,7 @@ stands_before batches i batch at booked =
     subst (λ (bs : List NumberedPieces). ¬ NumbersDiffer bs) (take-append-drop i batches)
     (booked_before (take i batches) (drop i batches) 0 batch first booked)
 
--- whether the numbers differ with one batch more, of which it is told whether its number is new
+-- whether the numbers differ with one more batch, given whether its number is new
 pub differ-more : (batches : List NumberedPieces) (batch : NumberedPieces) (differ new : Bool)
     → MatchBool differ (NumbersDiffer batches) (¬ NumbersDiffer batches)
     → MatchBool new (¬ IsBooked batches batch.number) (IsBooked batches batch.number)
@@ -132,7 +132,7 @@ differ-more batches batch true true before apart = numbers_differ-more batches b
 differ-more batches batch true false before booked = booked_before batches (batch ∷ []) 0 batch (record { within = omega arith; is = refl }) booked
 differ-more batches batch false new before _ = λ (all : NumbersDiffer (batches ++ batch ∷ [])). before (NumbersDiffer-left batches (batch ∷ []) all)
 
--- what the set of numbers tells when a batch's number is put in
+-- the result of putting a batch's number into the set of numbers
 pub is-new : (batches : List NumberedPieces) {n number : ℕ} (found added : Bool) → found ≡ list_any (nat_eq n) (numbers_of batches) → n ≡ number
     → added ≡ not found → MatchBool added (¬ IsBooked batches number) (IsBooked batches number)
 is-new batches {n} {number} true true known is told = absurd (cc)
@@ -140,7 +140,7 @@ is-new batches {n} {number} true false known is told = booked-told batches true 
 is-new batches {n} {number} false true known is told = booked-told batches false known is
 is-new batches {n} {number} false false known is told = absurd (cc)
 
--- one batch more is known
+-- one more batch is known
 pub known-then : (front : List NumberedPieces) (batch : NumberedPieces) (number : ℕ) (old new : ℕ → Bool) → KnowsNumbers old front
     → number ≡ batch.number → ((n : ℕ) → new n ≡ cond (nat_eq number n) true (old n)) → KnowsNumbers new (front ++ batch ∷ [])
 known-then front batch number old new known is updated =
@@ -213,7 +213,7 @@ pub no_values : (batches : List Shared) (more : List NumberedPieces) → values 
 no_values [] more is none = sym is
 no_values (batch ∷ batches) more is none = absurd (omega arith)
 
--- what holds of the first of them
+-- a property of the first of them
 pub of_first : (P : NumberedPieces → Type 0) (batches : List Shared) (d : Shared) → 1 ≤ length (values batches)
     → P (get_or batches 0 d).value → OfFirst P (values batches)
 of_first P [] d some holds = absurd (omega (arith, some))
@@ -227,21 +227,21 @@ pub first_booked : (journal batches : List NumberedPieces) → FirstIsBooked jou
 first_booked journal [] booked = absurd booked
 first_booked journal (batch ∷ batches) booked = booked_before journal (batch ∷ batches) 0 batch (record { within = omega arith; is = refl }) booked
 
--- where all numbers differ, none is refused
+-- if all numbers differ, none is refused
 pub new_refused : (journal batches : List NumberedPieces) (Own : Type 0) → NumbersDiffer (journal ++ batches)
     → FirstIsBooked journal batches ⊎ (Own × ¬ NumbersDiffer (journal ++ batches)) → ⊥
 new_refused journal batches Own differ refused =
     ⊎_elim (λ (first : FirstIsBooked journal batches). first_booked journal batches first differ)
     (λ (again : Own × ¬ NumbersDiffer (journal ++ batches)). again.1 differ) refused
 
--- where the first is new and the words are another stripe's, no batch was booked before
+-- if the first is new and the words are another stripe's, no batch was booked before
 pub stranger_refused : (journal batches : List NumberedPieces) (Own : Type 0) → FirstIsNew journal batches → ¬ Own
     → FirstIsBooked journal batches ⊎ (Own × ¬ NumbersDiffer (journal ++ batches)) → ⊥
 stranger_refused journal batches Own new other refused =
     ⊎_elim (λ (first : FirstIsBooked journal batches). new_first journal batches new first)
     (λ (again : Own × ¬ NumbersDiffer (journal ++ batches)). other again.0) refused
 
--- where there is no batch, none is refused
+-- if there is no batch, none is refused
 pub none_refused : (journal batches : List NumberedPieces) (Own : Type 0) → batches ≡ [] → NumbersDiffer journal
     → FirstIsBooked journal batches ⊎ (Own × ¬ NumbersDiffer (journal ++ batches)) → ⊥
 none_refused journal [] Own none differ refused =

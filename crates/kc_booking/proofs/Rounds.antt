@@ -13,7 +13,7 @@ use Rattle.kc_booking.proofs.KeptVecs.{items_at-get, room_at-past}
 use Rattle.kc_booking.proofs.Parts.{falls_in}
 use Rattle.kc_booking.proofs.RoundLemmas.{all_keys-more, sizes-more, batch-keys, batch-size}
 
--- the vectors hold what they held
+-- the contents of the vectors are unchanged
 pub IsRound-kept : {setup : StripeSetup} {batches : List NumberedPieces} {keys sizes newer lengths : List (Vec ℕ Global)} {known now : ℕ → Bool} {differ : Bool}
     → IsRound setup batches keys sizes known differ
     → length newer ≡ length keys → ((place : ℕ) → items_at newer place ≡ items_at keys place)
@@ -28,7 +28,7 @@ IsRound-kept is keys_all keys sizes_all sizes numbers = record {
   differ_is = is.differ_is;
 }
 
--- one batch more
+-- one more batch
 pub record IsOneMore (setup : StripeSetup) (batch : NumberedPieces) (hash_values counts : List ℕ) (keys sizes newer lengths : List (Vec ℕ Global)) : Type 0 where
   pub hashed : hash_values ≡ batch_hash_values setup batch
   pub counted : (stripe : ℕ) → get_or counts stripe 0 ≡ count_by (falls_in setup.stripe_bits stripe) hash_values
@@ -67,7 +67,7 @@ pub record IsCounted (setup : StripeSetup) (batch seen : NumberedPieces) (bits :
   pub passed_are : passed ≡ hash_values
   pub counted : (stripe : ℕ) → get_or counts stripe 0 ≡ count_by (falls_in bits stripe) passed
 
--- so many keys its cut of a stripe has
+-- how many keys its cut of a stripe has
 pub IsCounted-size : {setup : StripeSetup} {batch seen : NumberedPieces} {bits : ℕ} {hash_values passed counts : List ℕ}
     → IsCounted setup batch seen bits hash_values passed counts → (stripe : ℕ) → get_or counts stripe 0 ≡ length (keys_of (cut_at setup batch stripe))
 IsCounted-size {setup} {batch} {seen} {bits} {hash_values} {passed} {counts} is stripe =

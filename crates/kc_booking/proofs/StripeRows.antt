@@ -32,7 +32,7 @@ pub rows-more : (row : ℕ × ℕ → Row) (entries : List (ℕ × ℕ)) (rows :
 rows-more row entries rows i d within so_far =
     ap (λ xs. xs ++ row (get_or entries i d) ∷ []) so_far ∙ sym (ap (map row) (take_more entries i d within) ∙ map_push row (take i entries) (get_or entries i d))
 
--- words differ where their keys do
+-- words differ if their keys do
 words_differ : (key : ℕ → ℕ) (word : ℕ → ℕ) (entries : List (ℕ × ℕ)) → All (λ e. key (word e.0) ≡ e.0) entries → IsDistinct nat_eq (map (λ e. e.0) entries)
     → IsDistinct nat_eq (map (λ e. word e.0) entries)
 unfolding IsDistinct
@@ -55,7 +55,7 @@ words_differ key word (e ∷ entries) back distinct =
     others (f ∷ fs) under all =
         (apart f.0 (All-head (λ x. key (word x.0) ≡ x.0) f fs under) all.0, others fs (All-tail (λ x. key (word x.0) ≡ x.0) f fs under) all.1)
 
--- what a table tells of its entries, and of the word under each key
+-- what a table's rows determine of its entries, and of the word under each key
 pub record AreTurned (setup : StripeSetup) (inverse : List ℕ) (number : ℕ) (counts : KeyCounts) (entries : List (ℕ × ℕ)) : Type 0 where
   pub stands : All (λ e. StandsAt setup number e.0 (word_under setup inverse number e.0)) entries
   pub told : All (λ e. (get counts e.0 ≡ Some e.1) × (1 ≤ e.1)) entries
@@ -109,7 +109,7 @@ count_told setup inverse number sought counts (e ∷ entries) turned =
     told : (get counts e.0 ≡ Some e.1) × (1 ≤ e.1)
     told = All-head (λ f. (get counts f.0 ≡ Some f.1) × (1 ≤ f.1)) e entries turned.told
 
--- what is known of the stripe where its rows are asked for
+-- what is known of the stripe if its rows are asked for
 pub record TellsRows (setup : StripeSetup) (number : ℕ) (journal : List NumberedPieces) (counts : KeyCounts) (entries : List (ℕ × ℕ)) : Type 0 where
   pub bits : HasBits setup.rule.k setup.hash setup.stripe_bits
   pub divided : DividesWords setup

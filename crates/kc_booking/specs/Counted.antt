@@ -16,34 +16,34 @@ pub record TableSeen (C : Type 0) : Type 0 where
 abbrev pub counts_of : ℕ → KeyCounts → List ℕ
 counts_of bits counts = map (λ key. count_at counts key) (range_with_len 0 (2 ^ bits))
 
--- bins and total are those of the table's counts
+-- the bins and the total are those of the table's counts
 pub record IsCounted (bits : ℕ) (counts : KeyCounts) (bins : List ℕ) (total : ℕ) : Type 0 where
   pub bits_at_most : bits ≤ 62
   pub bins_are : bins ≡ bins_of (counts_of bits counts)
   pub total_is : total ≡ sum (counts_of bits counts)
   pub total_at_most : total ≤ 2 ^ 62
 
--- The numbers tell how many of the table's counts are at least so great. The bins that follow from them and the total
--- are those of the counts.
+-- The numbers are how many of the table's counts are at least 1, 2 and so on. The total and the bins that follow from
+-- them are those of the counts.
 pub record IsTold (bits : ℕ) (counts : KeyCounts) (numbers : List ℕ) (total : ℕ) : Type 0 where
   pub numbers_are : numbers ≡ at_least_of (counts_of bits counts)
   pub counted : IsCounted bits counts (bins_from numbers) total
 
--- the keys have as many bits as before, and what may be refused as full is what might be before
+-- the keys have as many bits as before, and the table may be full exactly where it might be before
 pub record KeepsLimits {C : Type 0} (bits : C → ℕ) (full : C → KeyCounts → ℕ → Type 0) (old new : C) : Type 0 where
   pub same_bits : bits new ≡ bits old
   pub same_limits : (counts : KeyCounts) (key : ℕ) → full new counts key ↔ full old counts key
 
--- one is added to the count of each key, one after another
+-- one is added to the count of each key, in order
 abbrev pub all_added : KeyCounts → List ℕ → KeyCounts
 all_added counts keys = fold added counts keys
 
--- one of the keys may be refused, with the earlier ones counted
+-- one of the keys may be refused after the earlier ones were counted
 abbrev pub SomeMayBeFull : (KeyCounts → ℕ → Type 0) → KeyCounts → List ℕ → Type 0
 SomeMayBeFull may_be_full counts keys =
     (i : ℕ) × (i < length keys) × may_be_full (all_added counts (take i keys)) (slice_index keys i)
 
--- the same, where the keys are counted in another order, which may be any
+-- the same if the keys are counted in some other order
 abbrev pub SomeMayBeFullInSomeOrder : (KeyCounts → ℕ → Type 0) → KeyCounts → List ℕ → Type 0
 SomeMayBeFullInSomeOrder may_be_full counts keys =
     (order : List ℕ) × IsPermutation keys order × SomeMayBeFull may_be_full counts order

@@ -1,4 +1,4 @@
--- What a refusal of a table is for a stripe.
+-- The error of a stripe for each error of its table.
 use Rattle.kc_table.specs.declared.table_fault.TableFault.{TableFault}
 use Rattle.kc_table.specs.declared.table_fault.TableFault.TheVariants as table
 use Rattle.kc_booking.specs.declared.booking_fault.BookFault.{BookFault}

@@ -1,4 +1,4 @@
--- A round: several batches, whose words are divided among the stripes in buffers that are kept.
+-- A round: several batches, whose words are divided among the stripes, in buffers that are used again.
 -- Source: this project's own; a worker cuts the batches of a round up one by one, and books them together.
 use Rattle.std.specs.Prelude.{◌≡◌, ℕ, ◌+◌, ◌/◌, ◌%◌, ◌^◌, ◌<◌, ◌==◌, Bool, List, [], map, filter, length, get_or, Vec}
 use Rattle.std.specs.Prelude.{vec_capacity}
@@ -9,7 +9,7 @@ use Rattle.kc_booking.specs.Setup.{StripeSetup, stripe_count}
 use Rattle.kc_booking.specs.Cuts.{round_at, all_keys_of, sizes_of}
 use Rattle.kc_booking.specs.Stripe.{NumbersDiffer, KnowsNumbers}
 
--- a round as a value: how the words are divided, its batches in order, and for how many keys each stripe has room
+-- a round as a value: the setup, its batches in order, and the number of keys for which each stripe has room
 pub record RoundState : Type 0 where
   pub setup : StripeSetup
   pub batches : List NumberedPieces
@@ -19,7 +19,7 @@ pub record RoundState : Type 0 where
 abbrev pub with_an_eighth : ℕ → ℕ
 with_an_eighth n = n + n / 8
 
--- of several vectors, what the one at a place holds, and its capacity
+-- of several vectors, the contents of the one at this index, and its capacity
 abbrev pub items_at : {T : Type 0} → List (Vec T Global) → ℕ → List T
 items_at vecs place = get_or (map (λ vec. vec.items) vecs) place []
 
@@ -29,13 +29,13 @@ rooms_of vecs = map (λ vec. vec_capacity vec) vecs
 abbrev pub room_at : {T : Type 0} → List (Vec T Global) → ℕ → ℕ
 room_at vecs place = get_or (rooms_of vecs) place 0
 
--- the hash values that fall in a stripe, by their keys: their bits without the low s ones, which are the stripe
+-- the keys of those hash values that belong to a stripe: the value without its low s bits, which are the stripe
 abbrev pub stripe_keys : ℕ → ℕ → List ℕ → List ℕ
 stripe_keys s stripe hash_values =
     map (λ value. value / 2 ^ s) (filter (λ value. value % 2 ^ s == stripe) hash_values)
 
--- what is kept of the batches of a round: for each stripe the keys and how many each batch has, and of their numbers
--- which there are, and whether none stands twice
+-- what is stored of the batches of a round: for each stripe the keys and how many each batch has; which numbers the
+-- batches have; and whether these are different
 pub record IsRound (setup : StripeSetup) (batches : List NumberedPieces) (keys sizes : List (Vec ℕ Global))
     (known : ℕ → Bool) (differ : Bool) : Type 0 where
   pub keys_all : length keys ≡ stripe_count setup

@@ -7,21 +7,21 @@ use Rattle.kc_hash.specs.Product.{product}
 use Rattle.kc_kmer.specs.Rule.{CountingRule}
 use Rattle.kc_kmer.specs.Word.{text, number, form}
 
--- the rule of the count, the hash as the columns of its matrix, and s, where there are 2 ^ s stripes
+-- the rule of the count; the hash, as the columns of its matrix; and s, for 2 ^ s stripes
 pub record StripeSetup : Type 0 where
   pub rule : CountingRule
   pub hash : List ℕ
   pub stripe_bits : ℕ
 
--- the hash takes words of k bases, two bits a base, and the number of stripes is a power of two, at most 64 and at most
--- the number of words
+-- the hash takes words of k bases, with two bits a base; the number of stripes is a power of two, at most 64 and at
+-- most the number of words
 pub record IsSetup (rule : CountingRule) (hash : List ℕ) (stripes : ℕ) : Type 0 where
   pub word_bits : length hash ≡ 2 * rule.k
   pub power : (s : ℕ) × (stripes ≡ 2 ^ s)
   pub at_most : stripes ≤ 64
   pub few : stripes ≤ 4 ^ rule.k
 
--- what a setup keeps: the hash takes words of k bases, and the stripes are told apart by at most 6 of its bits
+-- the invariant of a setup: the hash takes words of k bases, and at most 6 bits of the hash value are the stripe
 pub record HasBits (k : ℕ) (hash : List ℕ) (stripe_bits : ℕ) : Type 0 where
   pub word_bits : length hash ≡ 2 * k
   pub at_most : 2 * k ≤ 62
@@ -29,7 +29,7 @@ pub record HasBits (k : ℕ) (hash : List ℕ) (stripe_bits : ℕ) : Type 0 wher
   pub stripe_bits_few : stripe_bits ≤ 2 * k
 
 module _ (setup : StripeSetup) where
-  -- how many words there are, by their numbers
+  -- how many words there are
   abbrev pub word_count : ℕ
   word_count = 4 ^ setup.rule.k
 
@@ -63,7 +63,7 @@ module _ (setup : StripeSetup) where
     pub has_stripe : stripe_of word ≡ stripe
     pub has_key : key_of word ≡ key
 
-  -- each word has a stripe and a key, and each stripe and key has one word
+  -- each word has a stripe and a key, and each stripe and key have exactly one word
   pub record DividesWords : Type 0 where
     pub fits : (word : ℕ) → word < word_count → key_of word < 2 ^ key_bits
     pub found : (stripe key : ℕ) → stripe < stripe_count → key < 2 ^ key_bits → (word : ℕ) × StandsAt stripe key word

@@ -1,4 +1,4 @@
--- The laws of the equality of setups. They are proofs, and stand in specs/ since an `impl` may name only what stands
+-- The laws of the equality of setups. They are proofs; they are in specs/ because an `impl` can name only what is
 -- there.
 use Rattle.std.specs.Cmp.{IsEquivalence, IsPartialEquivalence, partial_equiv_from_equiv, nat_eq_equiv, on_equiv}
 use Rattle.std.specs.Cmp.{and_equiv, bool_eq_equiv}

@@ -1,4 +1,4 @@
--- A lawful stripe: it holds the counts of the batches that its journal names.
+-- A lawful stripe: it has the counts of the batches in its journal.
 -- Source: the occurrences of a word, Marçais and Kingsford 2011; the stripes and their journals are this project's.
 use Rattle.std.specs.Prelude.{◌≡◌, ℕ, Bool, ◌<◌, ◌≤◌, ◌^◌, List, map, sum, sum_by, All, Contains, nat_eq}
 use Rattle.std.specs.List.{IsDistinct, flat_map, list_any}
@@ -14,8 +14,8 @@ use Rattle.kc_booking.specs.Setup.{StripeSetup, word_count, stripe_count, key_bi
 use Rattle.kc_booking.specs.Setup.{DividesWords}
 use Rattle.kc_booking.specs.Cut.{StripeCut}
 
--- a stripe as a value: how the words are divided, its number among the stripes, its journal of the batches that were
--- booked, the table of its counts, the sizes of their bins, and their sum
+-- a stripe as a value: the setup, its number, its journal of the batches that were booked, the table of its counts, the
+-- sizes of the counts' bins, and the sum of the counts
 pub record StripeState (C : Type 0) : Type 0 where
   pub setup : StripeSetup
   pub number : ℕ
@@ -28,11 +28,11 @@ pub record StripeState (C : Type 0) : Type 0 where
 abbrev pub numbers_of : List NumberedPieces → List ℕ
 numbers_of journal = map (λ batch. batch.number) journal
 
--- no number stands twice among the batches of a journal
+-- the batches of a journal have different numbers
 abbrev pub NumbersDiffer : List NumberedPieces → Type 0
 NumbersDiffer journal = IsDistinct nat_eq (numbers_of journal)
 
--- it is known of each number whether it is in the journal
+-- for each number it is known whether it is in the journal
 abbrev pub KnowsNumbers : (ℕ → Bool) → List NumberedPieces → Type 0
 KnowsNumbers known journal = (n : ℕ) → known n ≡ list_any (nat_eq n) (numbers_of journal)
 
@@ -48,13 +48,13 @@ reads_in journal = flat_map (λ batch. as_reads batch.pieces) journal
 abbrev pub word_occurrences : StripeSetup → List NumberedPieces → ℕ → ℕ
 word_occurrences setup journal word = occurrences setup.rule (reads_in journal) (text setup.rule.k word)
 
--- the same for each word of a stripe, also for those that do not occur
+-- the same for each word of a stripe, also for words that do not occur
 abbrev pub stripe_occurrences : StripeSetup → ℕ → List NumberedPieces → List ℕ
 stripe_occurrences setup number journal = map (word_occurrences setup journal) (stripe_words setup number)
 
--- A lawful stripe. No number stands twice in its journal. Under the key of each word of the stripe it counts how often
--- the word occurs in the journal's batches. Bin c is how many words of the stripe occur c times, the last bin how many
--- occur more often than 10,000 times. The total is the sum of the counts, and at most 2 ^ 62.
+-- A lawful stripe. The batches in its journal have different numbers. The count under the key of each word of the
+-- stripe is how often the word occurs in these batches. Bin c is the number of words of the stripe that occur c times;
+-- the last bin, of those that occur more than 10,000 times. The total is the sum of the counts, and at most 2 ^ 62.
 pub record IsLawful (setup : StripeSetup) (number : ℕ) (journal : List NumberedPieces)
     (counts : KeyCounts) (bins : List ℕ) (total : ℕ) : Type 0 where
   pub numbers_differ : NumbersDiffer journal
@@ -73,23 +73,23 @@ pub record AreStripeRows (setup : StripeSetup) (number : ℕ) (journal : List Nu
   pub counts_are : (word : ℕ) → word < word_count setup → stripe_of setup word ≡ number
       → count_of rows word ≡ word_occurrences setup journal word
 
--- a batch of this number is in the journal
+-- the journal has a batch with this number
 abbrev pub IsBooked : List NumberedPieces → ℕ → Type 0
 IsBooked journal number = Contains (numbers_of journal) number
 
--- the cut is one of the stripe: its words are divided in the same way, and it has the stripe's number
+-- the cut belongs to the stripe: it has the stripe's setup and number
 abbrev pub IsOwnCut : {C : Type 0} → StripeState C → StripeCut → Type 0
 IsOwnCut stripe cut = (cut.setup ≡ stripe.setup) × (cut.stripe ≡ stripe.number)
 
--- journal, counts, bins and total are as before
+-- the journal, counts, bins and total are as before
 pub record IsUnchanged {C : Type 0} (counts : C → KeyCounts) (old new : StripeState C) : Type 0 where
   pub same_journal : new.journal ≡ old.journal
   pub same_counts : (key : ℕ) → count_at (counts new.table) key ≡ count_at (counts old.table) key
   pub same_bins : new.bins ≡ old.bins
   pub same_total : new.total ≡ old.total
 
--- what a stripe keeps: it is lawful, its number is that of a stripe, its keys are those of words, and it knows which
--- numbers are in its journal
+-- the invariant of a stripe besides being lawful: its number is that of a stripe, its keys are those of words, and it
+-- knows which numbers are in its journal
 pub record IsKept (setup : StripeSetup) (number : ℕ) (journal : List NumberedPieces) (bits : ℕ) (known : ℕ → Bool)
     : Type 0 where
   pub own : number < stripe_count setup

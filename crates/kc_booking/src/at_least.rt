@@ -1,5 +1,5 @@
-//! How many counts are at least so great, for each number from 1 to 10,001. A count that rises or falls by one changes
-//! a single one of these numbers, where it would leave one bin of a histogram and come into another.
+//! How many counts are at least c, for each c from 1 to 10,001. A count that rises or falls by one changes only one of
+//! these numbers, but two bins of a histogram.
 ghost use Rattle.std.specs.Prelude.{◌≡◌, ℕ, ◌+◌, ◌<◌, ◌≤◌, ◌^◌, [], IfOk};
 ghost use Rattle.kc_tally.specs.Histogram.{last_bin};
 ghost use Rattle.kc_booking.specs.AtLeast.{at_least_of, number_at, difference_at, bins_from, risen, fallen};
@@ -12,7 +12,7 @@ use std::marker::Model;
 // The number of the last bin of a histogram.
 const LAST_BIN: u64 = 10_001;
 
-/// For each number from 1 to 10,001 how many counts are at least so great.
+/// For each c from 1 to 10,001, how many counts are at least c.
 #[derive(Drop)]
 pub(crate) struct AtLeast {
     numbers: Vec<u64>,
@@ -30,7 +30,7 @@ impl Model for AtLeast {
 }
 
 impl AtLeast {
-    /// The numbers of no counts. Their memory is taken here.
+    /// The numbers of no counts. This takes their memory.
     pub fn new(alloc: Global) -> Result<AtLeast, AllocError>
         ensures { IfOk result (λ numbers. numbers ≡ at_least_of []) }
     {
@@ -50,7 +50,7 @@ impl AtLeast {
         self.numbers[count as usize - 1] += 1;
     }
 
-    /// A count was `count` and fell by one. Conditions: it was at least 1, and one of those that are told.
+    /// A count was `count` and fell by one. Conditions: it was at least 1, and is one of those that are counted here.
     pub fn lower(&mut self, count: u64)
         requires some { 1 ≤ count }
         requires there { count ≤ last_bin → 1 ≤ number_at self.old count }
@@ -62,7 +62,7 @@ impl AtLeast {
         self.numbers[count as usize - 1] -= 1;
     }
 
-    /// How many counts fall in the bin. Conditions: the bin is 1 to 10,001, and its number isn't below the next.
+    /// How many counts are in the bin. Conditions: the bin is 1 to 10,001, and its number isn't below the next one.
     pub fn bin(&self, bin: u64) -> u64
         requires some { 1 ≤ bin }
         requires within { bin ≤ last_bin }
@@ -76,7 +76,7 @@ impl AtLeast {
         number - self.numbers[bin as usize]
     }
 
-    /// The histogram of the counts. Condition: the numbers don't rise from one to the next.
+    /// The histogram of the counts. Condition: no number is above the one before it.
     pub fn histogram(&self, alloc: Global) -> Result<Histogram, AllocError>
         requires { (c : ℕ) → 1 ≤ c → number_at self.now (c + 1) ≤ number_at self.now c }
         ensures { IfOk result (λ bins. bins ≡ bins_from self.now) }

@@ -8,11 +8,11 @@ use kc_table::TableFault;
 use std::alloc::AllocError;
 use thiserror::Error;
 
-/// Why a batch was not booked, in the order in which the refusals are looked for. Each leaves the stripe's journal,
-/// counts, histogram and total as they were.
+/// Why a batch was not booked, in the order in which these refusals are looked for. Each leaves the stripe's journal,
+/// counts, histogram and total unchanged.
 #[derive(Clone, Copy, Debug, Drop, Eq, Error, PartialEq)]
 pub enum BookFault {
-    /// Refusal 21: a batch of this number was booked before.
+    /// Refusal 21: a batch with this number was booked before.
     #[error("the batch was booked before")]
     Twice,
     /// Refusal 22: the cut was made with another setup, or for another stripe.

@@ -1,11 +1,11 @@
-//! Vectors that are made once and kept: they are emptied, and their room stays.
+//! Vectors that are made once and used again: they are emptied, and keep their capacity.
 ghost use Rattle.std.specs.Prelude.{◌≡◌, ℕ, ◌+◌, ◌<◌, ◌≤◌, ◌⊎◌, [], length, max, slice_index, IfOk, OnOk};
 ghost use Rattle.std.specs.Vec.{vec_capacity};
 ghost use Rattle.kc_booking.specs.Round.{items_at, room_at, rooms_of, with_an_eighth};
 
 use std::alloc::{AllocError, Global};
 
-/// So many empty vectors.
+/// `count` empty vectors.
 pub(crate) fn empty_vecs<T>(alloc: Global, count: usize) -> Result<Vec<Vec<T>>, AllocError>
     ensures all { IfOk result (λ vecs. length vecs.items ≡ count) }
     ensures empty { IfOk result (λ vecs. (place : ℕ) → items_at vecs.items place ≡ []) }
@@ -17,7 +17,7 @@ pub(crate) fn empty_vecs<T>(alloc: Global, count: usize) -> Result<Vec<Vec<T>>, 
     Ok(vecs)
 }
 
-/// Empties each vector, and keeps its room.
+/// Empties each vector, and keeps its capacity.
 pub(crate) fn clear_each<T: Drop>(vecs: &mut Vec<Vec<T>>)
     ensures all { length vecs.new.items ≡ length vecs.old.items }
     ensures empty { (place : ℕ) → items_at vecs.new.items place ≡ [] }
@@ -28,7 +28,7 @@ pub(crate) fn clear_each<T: Drop>(vecs: &mut Vec<Vec<T>>)
     }
 }
 
-/// Makes room in each vector for so many more. Condition: there is one for each.
+/// Makes room in each vector for as many more. Condition: there is a number for each.
 pub(crate) fn make_room<T>(vecs: &mut Vec<Vec<T>>, more: &[usize]) -> Result<(), AllocError>
     requires { length vecs.old.items ≤ length more.now }
     ensures all { length vecs.new.items ≡ length vecs.old.items }
@@ -44,7 +44,7 @@ pub(crate) fn make_room<T>(vecs: &mut Vec<Vec<T>>, more: &[usize]) -> Result<(),
     Ok(())
 }
 
-/// Makes room for so many more: where it is missing, for an eighth more than there will be.
+/// Makes room for `more` items: if there is too little, for an eighth more than there will be.
 pub(crate) fn make_room_for<T>(vec: &mut Vec<T>, more: usize) -> Result<(), AllocError>
     ensures unchanged { vec.new.items ≡ vec.old.items }
     ensures room { OnOk result (length vec.old.items + more ≤ vec_capacity vec.new) }

@@ -1,5 +1,5 @@
 //! A table of counts with the histogram and the sum of its counts. Keys are counted one after another, each with a
-//! single look at the table; where it refuses one, those before it are taken back.
+//! single look at the table. If it refuses one, those before it are taken back.
 ghost use Rattle.std.specs.Prelude.{◌≡◌, ℕ, ◌+◌, ◌<◌, ◌≤◌, ◌^◌, ◌==◌, length, take, slice_index, count_by, All};
 ghost use Rattle.std.specs.Prelude.{IfErr, IfOk, OnOk, OnErr};
 ghost use Rattle.kc_table.specs.Counts.{count_at};
@@ -32,7 +32,7 @@ impl<C: Counts> Model for CountedTable<C> {
     ghost invariant = { λ t. IsTold (C.bits t.table) (C.counts t.table) t.at_least t.total };
 }
 
-// The table's refusal of a key, and how many keys before it were counted.
+// The table's fault for a key, and how many keys before it were counted.
 #[derive(Drop)]
 struct Refusal {
     counted: usize,
@@ -40,8 +40,8 @@ struct Refusal {
 }
 
 impl<C: Counts> CountedTable<C> {
-    /// Counts the keys, all or none: the count of each is greater by how often it occurs among them. They are counted
-    /// one after another, and the table's first refusal is answered; then each count is as before.
+    /// Counts the keys, all or none: the count of each grows by how often it occurs among them. They are counted one
+    /// after another. The table's first fault is returned, and then each count is as before.
     pub fn count_all(&mut self, keys: &[u64]) -> Result<(), TableFault>
         requires in_range { All (λ key. key < 2 ^ C.bits self.old.table) keys.now }
         requires room { self.old.total + length keys.now ≤ 2 ^ 62 }
@@ -57,7 +57,7 @@ impl<C: Counts> CountedTable<C> {
             → SomeMayBeFull (C.may_be_full self.old.table) (C.counts self.old.table) keys.now }
         ensures limits { KeepsLimits C.bits C.may_be_full self.old.table self.new.table }
     {
-        // for the proof: what is known of the counts before
+        // for the proof: facts about the counts before
         let _total = self.total;
         let Err(refusal) = self.count_front(keys) else {
             return Ok(());
@@ -90,8 +90,8 @@ impl<C: Counts> CountedTable<C> {
         Ok(())
     }
 
-    // Takes one away from the count of each key, as often as it occurs among the keys. It takes no memory. Condition:
-    // each has been counted so often.
+    // Decreases the count of each key, as often as it occurs among the keys. It takes no memory. Condition: each was
+    // counted that often.
     fn take_back(&mut self, keys: &[u64])
         requires in_range { All (λ key. key < 2 ^ C.bits self.old.table) keys.now }
         requires there { (q : ℕ) → count_by (λ key. key == q) keys.now ≤ count_at (C.counts self.old.table) q }
@@ -107,7 +107,7 @@ impl<C: Counts> CountedTable<C> {
         }
     }
 
-    /// How many keys have a count that falls in the bin. Condition: the bin is 1 to 10,001.
+    /// How many keys have a count in the bin. Condition: the bin is 1 to 10,001.
     pub fn bin(&self, bin: u64) -> u64
         requires some { 1 ≤ bin }
         requires within { bin ≤ last_bin }

@@ -13,7 +13,7 @@ use std::marker::Model;
 use std::slice::from_ref;
 use std::sync::Arc;
 
-/// A cut: what one batch means to one stripe, the keys of its words that are counted there.
+/// A cut: the keys of those words of a batch that one stripe counts.
 #[derive(Drop)]
 pub struct Cut {
     pub(crate) setup: Setup,
@@ -63,7 +63,7 @@ impl Cut {
         &self.keys
     }
 
-    /// The same as a round of one batch. Condition: the size is how many keys there are.
+    /// The same as a round of one batch. Condition: the size is the number of keys.
     pub(crate) fn as_round<'a>(&'a self, size: &'a usize) -> Cuts<'a>
         requires { size.now ≡ length (keys_of self.now) }
         ensures { result ≡ round_at self.now.setup (self.now.batch ∷ []) self.now.stripe }
@@ -79,8 +79,7 @@ impl Cut {
     }
 }
 
-/// The words of a batch divided among the stripes: a cut for each stripe, in their order, also where no word falls in
-/// it.
+/// The words of a batch divided among the stripes: a cut for each stripe, in order, even if it has no word.
 pub fn cut_up(alloc: Global, setup: &Setup, batch: &Arc<Batch>) -> Result<Vec<Cut>, AllocError>
     ensures { IfOk result (λ cuts. cuts.items ≡ cuts_of setup.now batch.now.value) }
 {
@@ -101,8 +100,8 @@ pub fn cut_up(alloc: Global, setup: &Setup, batch: &Arc<Batch>) -> Result<Vec<Cu
     Ok(cuts)
 }
 
-/// Puts the hash values of the batch's words that count in place of the numbers that are there, in order: where a list
-/// is given, those of the listed words.
+/// Replaces the numbers by the hash values of those words of the batch that count, in order: with a list, those of the
+/// listed words.
 pub(crate) fn put_hash_values(
     hash_values: &mut Vec<u64>,
     setup: &Setup,
@@ -110,7 +109,7 @@ pub(crate) fn put_hash_values(
 ) -> Result<(), AllocError>
     ensures { OnOk result (hash_values.new.items ≡ batch_hash_values setup.now batch.now) }
 {
-    // for the proof: what is known of the hash's bits
+    // for the proof: facts about the hash's bits
     let _bits = setup.stripe_bits;
     put_words(batch, setup.rule(), hash_values)?;
     match setup.list() {
@@ -124,7 +123,7 @@ pub(crate) fn put_hash_values(
     Ok(())
 }
 
-/// How many hash values fall in each stripe.
+/// How many hash values belong to each stripe.
 pub(crate) fn part_sizes(hash_values: &[u64], stripe_bits: u32) -> [usize; 64]
     requires { stripe_bits ≤ 6 }
     ensures { (stripe : ℕ) → slice_index result stripe

@@ -1,4 +1,4 @@
-//! The words of several batches that fall in one stripe.
+//! The words of several batches that belong to one stripe.
 ghost use Rattle.std.specs.Prelude.{◌≡◌, IfOk, MatchBool};
 ghost use Rattle.kc_word.specs.Shared.{values};
 ghost use Rattle.kc_booking.specs.Cuts.{all_keys_of, sizes_of};
@@ -11,18 +11,17 @@ use std::alloc::{AllocError, Global};
 use std::marker::Model;
 use std::sync::Arc;
 
-/// The cuts of several batches for one stripe, together: the batches, and the keys of their words there, as a round
-/// lends them.
+/// The cuts of several batches for one stripe: the batches, and the keys of their words there, borrowed from a round.
 #[derive(Drop)]
 pub struct Cuts<'a> {
     pub(crate) setup: &'a Setup,
     pub(crate) stripe: u32,
     pub(crate) batches: &'a [Arc<Batch>],
-    // The keys of one batch are behind those of another.
+    // the keys, batch after batch
     pub(crate) keys: &'a [u64],
     // how many keys each batch has
     pub(crate) sizes: &'a [usize],
-    // whether no number occurs twice among the batches
+    // whether the batches have different numbers
     pub(crate) numbers_differ: bool,
 }
 
@@ -67,14 +66,14 @@ impl<'a> Cuts<'a> {
         self.keys
     }
 
-    /// How many of the keys are each batch's.
+    /// How many of the keys belong to each batch.
     pub fn sizes(&self) -> &[usize]
         ensures { result.now ≡ sizes_of self.now }
     {
         self.sizes
     }
 
-    /// Whether no two of the batches have the same number.
+    /// Whether the batches have different numbers.
     pub fn numbers_differ(&self) -> bool
         ensures { MatchBool result (NumbersDiffer self.now.batches) (¬ NumbersDiffer self.now.batches) }
     {
@@ -82,7 +81,7 @@ impl<'a> Cuts<'a> {
     }
 }
 
-/// A list of its own of the same batches: each `Arc` is cloned, and no batch is copied.
+/// A new list of the same batches: each `Arc` is cloned, and no batch is copied.
 pub fn clones_of(alloc: Global, batches: &[Arc<Batch>]) -> Result<Vec<Arc<Batch>>, AllocError>
     ensures { IfOk result (λ more. values more.items ≡ values batches.now) }
 {

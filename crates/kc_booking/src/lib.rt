@@ -1,10 +1,10 @@
-//! One stripe of a count: how the words are divided among stripes, the keys of a batch's words in each stripe, and a
-//! stripe that always holds exactly the counts of the batches that its journal names.
+//! One stripe of a count: how words are divided among stripes, the keys of a batch's words in each stripe, and a stripe
+//! that always has exactly the counts of the batches in its journal.
 //!
-//! A [`Setup`] divides the words, all of them or those of a list alone. [`cut_up`] cuts a batch up into one [`Cut`] for
+//! A [`Setup`] divides the words, all of them or only those of a list. [`cut_up`] cuts a batch up into one [`Cut`] for
 //! each stripe, and [`Stripe::book`] counts a cut whole or not at all. A [`Round`] cuts several batches up in buffers
-//! that are kept, and [`Stripe::book_all`] counts all their words in a stripe, its [`Cuts`], or none. A stripe begins
-//! with an empty table: [`plain_tables`] and [`quotient_tables`] make one for each.
+//! that are used again, and [`Stripe::book_all`] counts all their words in a stripe, its [`Cuts`], or none. A stripe
+//! begins with an empty table: [`plain_tables`] and [`quotient_tables`] make one for each.
 //!
 //! ```ignore
 //! for batch in batches {

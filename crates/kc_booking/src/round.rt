@@ -19,20 +19,20 @@ use std::sync::Arc;
 
 /// The batches of a round, and the keys of their words in each stripe.
 ///
-/// The vectors of the keys are made once: `clear` takes the batches out, and keeps the room.
+/// The vectors of the keys are made once: `clear` removes the batches, and keeps the capacity.
 #[derive(Drop)]
 pub struct Round {
     setup: Setup,
     batches: Vec<Arc<Batch>>,
     // the hash values of the batch that was cut up last
     hash_values: Vec<u64>,
-    // For each stripe the keys there: those of one batch are behind those of another.
+    // for each stripe its keys, batch after batch
     keys: Vec<Vec<u64>>,
-    // For each stripe, how many keys each batch has there.
+    // for each stripe, how many keys each batch has there
     sizes: Vec<Vec<usize>>,
     // the numbers of the batches
     numbers: HashSet<u64>,
-    // whether no number occurs twice among the batches
+    // whether the batches have different numbers
     numbers_differ: bool,
 }
 
@@ -84,7 +84,7 @@ impl Round {
         &self.batches
     }
 
-    /// The words of the batches that fall in a stripe. Condition: it is one of the setup's stripes.
+    /// The words of the batches that belong to a stripe. Condition: it is one of the setup's stripes.
     pub fn cuts(&self, stripe: u32) -> Cuts<'_>
         requires { stripe < stripe_count self.now.setup }
         ensures { result ≡ round_at self.now.setup self.now.batches stripe }
@@ -99,8 +99,7 @@ impl Round {
         }
     }
 
-    /// Divides the words of one batch more, which comes behind the others. Where memory is refused, the batches are as
-    /// before.
+    /// Divides the words of one more batch, after the others. If memory is refused, the batches are as before.
     pub fn cut_up(&mut self, batch: &Arc<Batch>) -> Result<(), AllocError>
         ensures setup { self.new.setup ≡ self.old.setup }
         ensures batches { OnOk result (self.new.batches ≡ self.old.batches ++ batch.now.value ∷ []) }
@@ -127,7 +126,7 @@ impl Round {
         Ok(())
     }
 
-    /// Takes all batches out. The room for their keys stays.
+    /// Removes all batches. The capacity for their keys stays.
     pub fn clear(&mut self)
         ensures setup { self.new.setup ≡ self.old.setup }
         ensures batches { self.new.batches ≡ [] }
@@ -147,14 +146,14 @@ impl Round {
             → items_at result.items stripe ≡ all_keys_of (round_at self.setup self.batches stripe) }
         ensures few { length result.items ≤ 64 }
     {
-        // for the proof: how many stripes there are at most
+        // for the proof: the greatest number of stripes
         let _stripes = self.setup.stripes();
         self.keys
     }
 }
 
-// Puts the key of each hash value behind those of its stripe. Conditions: there is a vector for each stripe, and room
-// in it.
+// Appends the key of each hash value to those of its stripe. Conditions: there is a vector for each stripe, with enough
+// room.
 fn push_keys(keys: &mut Vec<Vec<u64>>, hash_values: &[u64], stripe_bits: u32)
     requires bits { stripe_bits ≤ 6 }
     requires all { length keys.old.items ≡ 2 ^ stripe_bits }
@@ -171,7 +170,7 @@ fn push_keys(keys: &mut Vec<Vec<u64>>, hash_values: &[u64], stripe_bits: u32)
     }
 }
 
-// Puts one size behind those of each stripe. Conditions: there is one for each stripe, and room for it.
+// Appends one size to those of each stripe. Conditions: there is one for each stripe, and room for it.
 fn push_sizes(columns: &mut Vec<Vec<usize>>, sizes: &[usize; 64])
     requires few { length columns.old.items ≤ 64 }
     requires room { (stripe : ℕ) → stripe < length columns.old.items

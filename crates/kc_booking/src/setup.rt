@@ -12,12 +12,12 @@ use std::alloc::AllocError;
 use std::marker::Model;
 use std::sync::Arc;
 
-/// The setup of a count: how its words are divided among stripes. It has the rule of the count, the list of the words
-/// that it counts, where one is given, the hash of its words, and the number of stripes.
+/// The setup of a count: how its words are divided among stripes. It has the rule of the count, the list of the only
+/// words that it counts, if one is given, the hash of its words, and the number of stripes.
 ///
 /// A word's hash value is its hashed number. The low bits of the hash value, as many as distinguish the stripes, are
-/// the word's stripe; the rest is its key. No call but `clone` takes memory. It has about 1 KB: lend it where it is
-/// not kept.
+/// the word's stripe; the rest is its key. No call but `clone` takes memory. A setup has about 1 KB: borrow it unless
+/// you keep it.
 #[derive(Debug, Drop)]
 pub struct Setup {
     rule: Rule,
@@ -41,9 +41,9 @@ impl Model for Setup {
 
 impl Setup {
     /// The most stripes.
-    pub const MOST_STRIPES: u32 = 64;
+    pub const MAX_STRIPES: u32 = 64;
 
-    /// The setup of a count by this rule, hash and number of stripes: Some exactly where the hash has two bits for each
+    /// The setup of a count with this rule, hash and number of stripes: Some exactly if the hash has two bits for each
     /// base of a word, and `stripes` is a power of two, at most 64 and at most 4^k.
     pub fn new(rule: Rule, hash: Hash, stripes: u32) -> Option<Setup>
         ensures some { IsSome result ↔ IsSetup rule hash stripes }
@@ -51,7 +51,7 @@ impl Setup {
         ensures hash { IfSome result (λ setup. setup.hash ≡ hash) }
         ensures stripes { IfSome result (λ setup. stripe_count setup ≡ stripes) }
     {
-        if stripes == 0 || stripes > Setup::MOST_STRIPES {
+        if stripes == 0 || stripes > Setup::MAX_STRIPES {
             return None;
         }
         let word_bits = 2 * rule.k().get();
@@ -68,8 +68,8 @@ impl Setup {
         })
     }
 
-    /// This setup with a list, so that no word counts that is not in it: Some where the words of the list are as long
-    /// as those of the count, and in the forms under which these count.
+    /// This setup with a list, so that only its words count: Some if the words of the list have the length of those of
+    /// the count, and the same strands.
     pub fn listed(self, list: Arc<Only>) -> Option<Setup>
         ensures some { IsSome result ↔ ((list.value.k ≡ self.rule.k) × (list.value.both ≡ self.rule.both)) }
         ensures rule { IfSome result (λ setup. setup.rule ≡ with_list self.rule list.value.words) }
@@ -101,7 +101,7 @@ impl Setup {
         &self.rule
     }
 
-    /// The list of the words that count, where one is given.
+    /// The list of the words that count, if one is given.
     pub fn list(&self) -> Option<&Only>
         ensures none { IfNone result (self.now.rule.only ≡ None) }
         ensures words { IfSome result (λ list. self.now.rule.only ≡ Some list.now.words) }
@@ -145,21 +145,21 @@ impl Setup {
         self.hash.bits() - self.stripe_bits
     }
 
-    /// A law: each word has a stripe and a key, and each stripe and key has one word.
+    /// A law: each word has a stripe and a key, and each stripe and key have exactly one word.
     pub fn divides_words(&self)
         ensures { DividesWords self.now }
     {
         self.hash.is_permutation();
     }
 
-    /// The form under which a word counts: the canonical one where both strands do. Condition: the word is below 4^k.
+    /// The form under which a word counts: the canonical one if both strands count. Condition: the word is below 4^k.
     pub fn form_of(&self, word: Word) -> Word
         requires { word.0 < word_count self.now }
         ensures value { result.0 ≡ form_of self.now word.0 }
         ensures letters { text self.now.rule.k result.0 ≡ form_text self.now word.0 }
         ensures below { result.0 < word_count self.now }
     {
-        // for the proof: what is known of the numbers of words
+        // for the proof: facts about the numbers of words
         word_laws::number_of_text();
         if self.rule.both() {
             canonical(word, self.rule.k())
@@ -186,8 +186,8 @@ impl Setup {
         self.hash.forward(word.0) >> self.stripe_bits
     }
 
-    /// The one word that has this stripe and this key. Conditions: the stripe is below the number of stripes, and the
-    /// key has at most `key_bits` bits.
+    /// The one word with this stripe and this key. Conditions: the stripe is below the number of stripes, and the key
+    /// has at most `key_bits` bits.
     pub fn word_of(&self, stripe: u32, key: u64) -> Word
         requires stripe { stripe < stripe_count self.now }
         requires key { key < 2 ^ key_bits self.now }
@@ -197,7 +197,7 @@ impl Setup {
         Word(self.hash.back(self.hash_value_at(stripe, key)))
     }
 
-    /// The hash value of the word that has this stripe and this key.
+    /// The hash value of the word with this stripe and this key.
     pub(crate) fn hash_value_at(&self, stripe: u32, key: u64) -> u64
         requires stripe { stripe < stripe_count self.now }
         requires key { key < 2 ^ key_bits self.now }

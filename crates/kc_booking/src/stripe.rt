@@ -1,4 +1,4 @@
-//! A stripe, which always holds exactly the counts of the batches that its journal names.
+//! A stripe, which always has exactly the counts of the batches in its journal.
 ghost use Rattle.std.specs.Prelude.{◌≡◌, ◌+◌, ◌<◌, ◌≤◌, ◌^◌, ◌≢◌, ◌==◌, ◌↔◌, ◌⊎◌, [], ◌∷◌, ◌++◌, length, sum_by};
 ghost use Rattle.std.specs.Prelude.{count_by, max, ◌*◌, ℕ, IfOk, IfErr, IsOk, OnOk, OnErr, MatchBool, nat_eq};
 ghost use Rattle.std.specs.List.Sorted.{IsPermutation};
@@ -31,7 +31,7 @@ use std::collections::HashSet;
 use std::marker::Model;
 use std::sync::Arc;
 
-/// One stripe of a count: the batches that were booked in it, and the counts of their words that fall in it.
+/// One stripe of a count: the batches that were booked into it, and the counts of their words that belong to it.
 #[derive(Drop)]
 pub struct Stripe<C: Counts> {
     setup: Setup,
@@ -66,8 +66,8 @@ impl<C: Counts> Model for Stripe<C> {
 }
 
 impl<C: Counts + Drop> Stripe<C> {
-    /// The stripe of this number, in which nothing was booked. Conditions: the number is below the number of stripes;
-    /// nothing is stored in the table, and its keys have the setup's `key_bits`.
+    /// The stripe with this number, without batches. Conditions: the number is below the number of stripes; nothing is
+    /// stored in the table, and its keys have the setup's `key_bits`.
     pub fn new(alloc: Global, setup: &Setup, number: u32, table: C) -> Result<Stripe<C>, AllocError>
         requires number { number < stripe_count setup.now }
         requires empty { C.counts table ≡ empty }
@@ -78,7 +78,7 @@ impl<C: Counts + Drop> Stripe<C> {
         ensures journal { IfOk result (λ stripe. stripe.journal ≡ []) }
         ensures table { IfOk result (λ stripe. stripe.table ≡ table) }
     {
-        // for the proof: what is known of the words and their keys
+        // for the proof: facts about the words and their keys
         setup.hash.is_permutation();
         let setup = setup.clone()?;
         let at_least = AtLeast::new(alloc)?;
@@ -98,12 +98,12 @@ impl<C: Counts + Drop> Stripe<C> {
 }
 
 impl<C: Counts> Stripe<C> {
-    /// A law: the stripe holds exactly the counts of its journal's batches.
+    /// A law: the stripe has exactly the counts of the batches in its journal.
     pub fn is_lawful(&self)
         ensures { IsLawful self.now.setup self.now.number self.now.journal
             (C.counts self.now.table) self.now.bins self.now.total }
     {
-        // What a stripe keeps is known where it is read.
+        // Reading it makes the stripe's invariant known.
         let _number = self.number;
     }
 
@@ -129,7 +129,7 @@ impl<C: Counts> Stripe<C> {
         &self.journal
     }
 
-    /// How often the words of the stripe occur in the journal's batches, all together.
+    /// The sum of the occurrences of the stripe's words in the journal's batches.
     pub fn total(&self) -> u64
         ensures value { result ≡ self.now.total }
         ensures words { result ≡ sum_by (word_occurrences self.now.setup self.now.journal)
@@ -139,15 +139,15 @@ impl<C: Counts> Stripe<C> {
         self.counted.total
     }
 
-    /// How many slots the stripe's table has: for speed alone.
+    /// How many slots the stripe's table has. It matters only for speed.
     pub fn slots(&self) -> u64
         ensures { result ≡ C.slots self.now.table }
     {
         self.counted.table.slots()
     }
 
-    /// How many words of the stripe occur so often in the journal's batches; those that occur more often than 10,000
-    /// times are in bin 10,001. Condition: the bin is 1 to 10,001.
+    /// How many words of the stripe have this count in the journal's batches; those with a count above 10,000 are in
+    /// bin 10,001. Condition: the bin is 1 to 10,001.
     pub fn bin(&self, bin: u64) -> u64
         requires some { 1 ≤ bin }
         requires within { bin ≤ last_bin }
@@ -159,25 +159,25 @@ impl<C: Counts> Stripe<C> {
         self.counted.bin(bin)
     }
 
-    /// How many words of the stripe occur how often in the journal's batches.
+    /// How many words of the stripe have which count in the journal's batches.
     pub fn histogram(&self, alloc: Global) -> Result<Histogram, AllocError>
         ensures { IfOk result (λ bins. bins ≡ self.now.bins) }
     {
         self.counted.histogram(alloc)
     }
 
-    /// The greatest count of a word of the stripe in the journal's batches, 0 where none occurs. It looks at each key
-    /// once and takes no memory.
+    /// The greatest count of a word of the stripe in the journal's batches, 0 if none occurs. It looks at each key once
+    /// and takes no memory.
     pub fn greatest(&self) -> u64
         ensures { result ≡ greatest_of (stripe_occurrences self.now.setup self.now.number self.now.journal) }
     {
-        // for the proof: what is known of the keys
+        // for the proof: facts about the keys
         let _bits = self.counted.table.key_bits();
         self.counted.table.greatest()
     }
 
-    /// How often a word of the stripe occurs in the journal's batches, and 0 for a word of another stripe.
-    /// Condition: the word is below 4^k.
+    /// How often a word of the stripe occurs in the journal's batches; 0 for a word of another stripe. Condition: the
+    /// word is below 4^k.
     pub fn count_of(&self, word: Word) -> u64
         requires { word.0 < word_count self.now.setup }
         ensures own { stripe_of self.now.setup word.0 ≡ self.now.number
@@ -195,7 +195,7 @@ impl<C: Counts> Stripe<C> {
         ensures { IfOk result (λ rows. AreStripeRows self.now.setup self.now.number self.now.journal rows.items) }
     {
         let setup = &self.setup;
-        // for the proof: what is known of the words and their keys
+        // for the proof: facts about the words and their keys
         let _bits = setup.stripe_bits;
         let counted = self.counted.table.rows(alloc)?;
         let tables = setup.hash.back_tables();
@@ -211,7 +211,7 @@ impl<C: Counts> Stripe<C> {
         Ok(rows)
     }
 
-    /// Books a batch: its words that fall in this stripe are counted, and the journal names it.
+    /// Books a batch: its words that belong to this stripe are counted, and the journal gets it.
     pub fn book(&mut self, cut: &Cut) -> Result<(), BookFault>
         ensures setup { self.new.setup ≡ self.old.setup }
         ensures number { self.new.number ≡ self.old.number }
@@ -228,20 +228,21 @@ impl<C: Counts> Stripe<C> {
         ensures memory { result ≡ Err BookFault.Memory → self.old.total + length (keys_of cut.now) ≤ 2 ^ 62 }
         ensures limits { KeepsLimits C.bits C.may_be_full self.old.table self.new.table }
     {
-        // for the proof: what is known of the journal, in which no number occurs twice
+        // for the proof: facts about the journal, whose batches have different numbers
         let _number = self.number;
         let size = cut.keys.len();
         let cuts = cut.as_round(&size);
         self.check_all(&cuts)?;
-        self.enter_counted(cuts.batches, cuts.keys)
+        self.count_and_enter(cuts.batches, cuts.keys)
     }
 
-    /// Books several batches, all or none: their words that fall in this stripe are counted, and the journal names
-    /// them in their order. No batch is booked where there is none.
+    /// Books several batches, all or none: their words that belong to this stripe are counted, and the journal gets
+    /// them in order. If there are no batches, nothing changes.
     ///
-    /// The refusal is that of the first cut that `book` would refuse, cut by cut; but a number that occurs twice is
+    /// The fault is that of the first cut that `book` would refuse, cut by cut; but a number that occurs twice is
     /// reported before a full stripe. The keys are counted in the order of the table's parts, so a full table may
-    /// refuse another key than `book` would meet first. What was ordered before goes, and its buffers are used again.
+    /// refuse another key than the first that `book` would meet. `ordered` loses what it had, and its buffers are used
+    /// again.
     pub fn book_all(&mut self, cuts: &Cuts, ordered: &mut Ordered) -> Result<(), BookFault>
         ensures setup { self.new.setup ≡ self.old.setup }
         ensures number { self.new.number ≡ self.old.number }
@@ -263,16 +264,17 @@ impl<C: Counts> Stripe<C> {
         ensures empty { cuts.now.batches ≡ [] → IsOk result }
     {
         if cuts.batches.is_empty() {
-            // For the proof: what is known of the journal, in which no number occurs twice.
+            // For the proof: facts about the journal, whose batches have different numbers.
             let _number = self.number;
             return Ok(());
         }
         self.check_all(cuts)?;
         ordered.order(&self.counted.table, cuts.keys)?;
-        self.enter_counted(cuts.batches, &ordered.keys)
+        self.count_and_enter(cuts.batches, &ordered.keys)
     }
 
-    // Whether the batches are new ones of this stripe, and the total stays within its limit. Condition: there is one.
+    // Whether the batches are new ones of this stripe, and the total stays within its limit. Condition: there is at
+    // least one.
     fn check_all(&self, cuts: &Cuts) -> Result<(), BookFault>
         requires { 1 ≤ length cuts.now.batches }
         ensures new { OnOk result (NumbersDiffer (self.now.journal ++ cuts.now.batches)) }
@@ -299,13 +301,13 @@ impl<C: Counts> Stripe<C> {
                 return Err(BookFault::Twice);
             }
         }
-        if cuts.keys.len() as u64 > MOST_WORDS - self.counted.total {
+        if cuts.keys.len() as u64 > MAX_WORDS - self.counted.total {
             return Err(BookFault::Full);
         }
         Ok(())
     }
 
-    // Whether a batch of this number was booked.
+    // Whether a batch with this number was booked.
     fn has_booked(&self, batch: &Arc<Batch>) -> bool
         ensures { MatchBool result (IsBooked self.now.journal batch.now.value.number)
             (¬ IsBooked self.now.journal batch.now.value.number) }
@@ -313,9 +315,9 @@ impl<C: Counts> Stripe<C> {
         self.booked.contains(&batch.number())
     }
 
-    // Counts the keys and names the batches in the journal, or neither. Conditions: the batches are new ones, the keys
+    // Counts the keys and enters the batches in the journal, or neither. Conditions: the batches are new ones, the keys
     // are those of their words in this stripe, in any order, and the total stays within its limit.
-    fn enter_counted(&mut self, batches: &[Arc<Batch>], keys: &[u64]) -> Result<(), BookFault>
+    fn count_and_enter(&mut self, batches: &[Arc<Batch>], keys: &[u64]) -> Result<(), BookFault>
         requires new { NumbersDiffer (self.old.journal ++ values batches.now) }
         requires keys { IsPermutation
             (all_keys_of (round_at self.old.setup (values batches.now) self.old.number)) keys.now }
@@ -331,7 +333,7 @@ impl<C: Counts> Stripe<C> {
             → SomeMayBeFull (C.may_be_full self.old.table) (C.counts self.old.table) keys.now }
         ensures limits { KeepsLimits C.bits C.may_be_full self.old.table self.new.table }
     {
-        // what can fail comes first; where it does, no count and no name in the journal has changed
+        // what can fail comes first; if it fails, no count and no entry of the journal has changed
         let clones = clones_of(*self.journal.allocator(), batches)?;
         make_room(&mut self.journal, &mut self.booked, batches.len())?;
         self.counted.count_all(keys)?;
@@ -340,8 +342,8 @@ impl<C: Counts> Stripe<C> {
     }
 }
 
-// Makes room for so many batches more in the journal, and for their numbers among those that are booked. A journal with
-// too little room gets room for twice its batches and so many more.
+// Makes room for so many more batches in the journal, and for their numbers among the booked ones. A journal with too
+// little room gets room for twice its batches and so many more.
 fn make_room(
     journal: &mut Vec<Arc<Batch>>,
     booked: &mut HashSet<u64>,
@@ -362,8 +364,8 @@ fn make_room(
     booked.reserve(more)
 }
 
-// Puts several batches behind those of the journal, in order, and their numbers to those that are booked. Conditions:
-// there is room for them, and what is booked are the numbers in the journal.
+// Appends several batches to the journal, in order, and adds their numbers to the booked ones. Conditions: there is
+// room for them, and the booked numbers are those in the journal.
 fn enter_all(journal: &mut Vec<Arc<Batch>>, booked: &mut HashSet<u64>, mut batches: Vec<Arc<Batch>>)
     requires room { length journal.old.items + length batches.items ≤ vec_capacity journal.old }
     requires spare { length batches.items ≤ spare booked.old }
@@ -384,4 +386,4 @@ fn enter_all(journal: &mut Vec<Arc<Batch>>, booked: &mut HashSet<u64>, mut batch
 }
 
 // The greatest total.
-const MOST_WORDS: u64 = 1 << 62;
+const MAX_WORDS: u64 = 1 << 62;

@@ -7,7 +7,8 @@ use Rattle.kc_tally.specs.Tally.{row_of, AreOrderedRows}
 use Rattle.kc_combine.specs.declared.ahead.Ahead.{Ahead}
 use Rattle.kc_combine.specs.declared.gives_rows.GivesRows.{Ghosts}
 use Rattle.kc_combine.specs.Combined.{TakesRow, TakeRows}
-use Rattle.kc_combine.specs.Aheads.{BeginAt, BeginTo, BeginsAt, FailsAt, HasTaken, HaveTaken, HaveTakenTo, heads_of, lengths_of}
+use Rattle.kc_combine.specs.Whences.{Whence}
+use Rattle.kc_combine.specs.Aheads.{BeginAt, BeginTo, BeginsAt, FailsAt, HasTaken, HaveTaken, HaveTakenTo, heads_of, whences_of}
 
 -- the last of rows in order has a count
 last_present : (bound : ℕ) (rows : List Row) (row : Row) → AreOrderedRows bound (rows ++ row ∷ []) → 1 ≤ row.count
@@ -21,7 +22,7 @@ pub takes_head : (bound word : ℕ) (rows : List Row) (row : Row) → row.word �
 takes_head bound word rows row is are =
     inl (ap (λ w. rows ++ row_of w row.count ∷ []) is, last_present bound rows row are)
 
--- behind it the next one is at hand, or none is left
+-- after it the next one is already read, or none is left
 pub has_next : {R : Type 0} (Gave Whole : R → List Row → Type 0) (reading : R) (next : Option Row) (rows : List Row)
     → IfSome next (λ row. Gave reading (rows ++ row ∷ [])) → IfNone next (Whole reading rows)
     → HasTaken Gave Whole reading next rows
@@ -97,13 +98,13 @@ module _ {R F : Type 0} {G : Ghosts R F} (Gave Whole : R → List Row → Type 0
 -- ---- the length of the words
 
 -- a table whose words keep their length changes no length
-pub lengths_stay : {R F : Type 0} {G : Ghosts R F} (k_of : R → ℕ) (i : ℕ) (aheads : List (Ahead R F G)) (old new : Ahead R F G)
-    → i < length aheads → k_of new.reading ≡ k_of (get_or aheads i old).reading
-    → lengths_of k_of (slice_set aheads i new) ≡ lengths_of k_of aheads
-lengths_stay k_of i [] old new h same = absurd (omega (arith, h))
-lengths_stay k_of zero (ahead ∷ aheads) old new h same = ap (λ n. n ∷ lengths_of k_of aheads) same
-lengths_stay k_of (suc i) (ahead ∷ aheads) old new h same =
-    ap (λ ns. k_of ahead.reading ∷ ns) (lengths_stay k_of i aheads old new (omega (arith, h)) same)
+pub whences_stay : {R F : Type 0} {G : Ghosts R F} (whence : R → Whence) (i : ℕ) (aheads : List (Ahead R F G)) (old new : Ahead R F G)
+    → i < length aheads → whence new.reading ≡ whence (get_or aheads i old).reading
+    → whences_of whence (slice_set aheads i new) ≡ whences_of whence aheads
+whences_stay whence i [] old new h same = absurd (omega (arith, h))
+whences_stay whence zero (ahead ∷ aheads) old new h same = ap (λ n. n ∷ whences_of whence aheads) same
+whences_stay whence (suc i) (ahead ∷ aheads) old new h same =
+    ap (λ ns. whence ahead.reading ∷ ns) (whences_stay whence i aheads old new (omega (arith, h)) same)
 
 -- ---- the words that are left
 

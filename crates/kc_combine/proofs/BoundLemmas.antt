@@ -1,4 +1,4 @@
--- The rows of several tables together have the words of the tables alone, and are the whole result where no table has a
+-- The rows of several tables together have the words of the tables alone, and are the whole result if no table has a
 -- row left.
 use Rattle.std.proofs.Common.{◌≡◌, ℕ, zero, suc, ◌^◌, ◌<◌, ◌≤◌, min, ⊎_elim, List, [], ◌∷◌, length, get_or, All, refl, ap, sym, ◌∙◌, arith}
 use Rattle.std.specs.Prelude.{Option, Some, None}
@@ -95,8 +95,8 @@ are_whole Gave Whole (ahead ∷ aheads) (rows ∷ tables) taken none =
     let first = first_whole Gave Whole ahead.reading ahead.head rows (heads_of aheads) taken.0 none in
     (first.0, are_whole Gave Whole aheads tables taken.1 first.1)
 
--- where no row comes any more, the tables that were read are whole, and the rows are the result: `words` is that the
--- tables have words of k bases, which a whole table text says
+-- if no row comes any more, the tables that were read are whole, and the rows are the result; `words`: the tables have
+-- words of k bases, as a whole table text does
 pub is_combined : {R F : Type 0} {G : Ghosts R F} (Gave Whole : R → List Row → Type 0) (k : ℕ) (rule : List ℕ → ℕ)
     (aheads : List (Ahead R F G)) (rows : List Row) → MakesNothingOfNone rule
     → (words : (tables : List (List Row)) → AreWhole Whole aheads tables → All (λ table. AreOrderedRows (4 ^ k) table) tables)

@@ -1,4 +1,4 @@
--- Tables put together word by word, the least word next.
+-- Tables combined word by word, the least word next.
 use Rattle.std.proofs.Common.{◌≡◌, ℕ, zero, suc, ◌+◌, ◌^◌, ◌<◌, ◌≤◌, ⊎_elim, List, [], ◌∷◌, ◌++◌, All, refl, ap, ap₂, sym, ◌∙◌, subst, arith, inl, inr}
 use Rattle.std.proofs.lemmas.Bool.{cases_lt}
 use Rattle.std.proofs.lemmas.List.Elements.{All-nil}
@@ -17,7 +17,7 @@ ordered_within bound more rows least are = record {
   present = are.present;
 }
 
--- where a row of a greater word was put behind the rows, they are in order
+-- if a row of a greater word was appended to the rows, they are in order
 pub taken_ordered : (bound word count : ℕ) (before after : List Row) → bound ≤ word → AreOrderedRows bound before → TakesRow before after word count
     → AreOrderedRows (word + 1) after
 taken_ordered bound word count before after least are (inl took) =
@@ -45,7 +45,7 @@ taken_here bound word count before after least are (inr none) =
 
 -- ---- all tables
 
--- those behind the first
+-- those after the first
 rest-of : {bound : ℕ} (first : List Row) (tables : List (List Row)) → All (λ table. AreOrderedRows bound table) (first ∷ tables)
     → All (λ table. AreOrderedRows bound table) tables
 rest-of first tables are i d h = are (suc i) d (omega (arith, h))
@@ -106,7 +106,7 @@ combined_none rule tables are = record {
   counts = λ n h. absurd (omega (arith, h));
 }
 
--- the next word: its row is taken of each table that has it, and what the rule makes of their counts is put behind
+-- the next word: its row is taken from each table that has it, and the rule's result for their counts is appended
 pub combined_more : (bound word : ℕ) (rule : List ℕ → ℕ) (befores afters : List (List Row)) (rows more : List Row) (counts : List ℕ)
     → MakesNothingOfNone rule → bound ≤ word → AreCombinedBelow bound rule befores rows
     → TakeRows befores afters word counts → TakesRow rows more word (rule counts)

@@ -6,4 +6,9 @@ pub mod CountLemmas
 pub mod ResultLemmas
 pub mod MergedLemmas
 pub mod OpenTableLemmas
+pub mod KeptTableLemmas
 pub mod WrittenLemmas
+pub mod CombinedHeaderLemmas
+pub mod CombinedTextLemmas
+pub mod JudgedTextLemmas
+pub mod LoadedTableLemmas

@@ -6,7 +6,7 @@ use Rattle.kc_tally.specs.declared.row.Row.{Row}
 use Rattle.kc_report.specs.declared.report_faults.ReportFault.{ReportFault}
 use Rattle.kc_report.specs.RowByRow.{ComesNext, GivesRow, HasGivenRows, ReadsRow, RefusesRow, RowsRead, TableStand, tally_of}
 use Rattle.kc_report.specs.TableReading.{GivesTable}
-use Rattle.kc_combine.specs.OpenTables.{low_of}
+use Rattle.kc_combine.specs.Whences.{low_of}
 use Rattle.kc_tally.proofs.PackingSteps.{word-small}
 
 pub given_row : (start now : Seen) (limit : ℕ) (rows : List Row) (stand : TableStand) (result : Result (Option Row) ReportFault)
@@ -50,3 +50,21 @@ rises_with old new (Ok (Some row)) most h =
     (above old row h.0, word-small old.k row.word most h.0.word, ap (λ (read : RowsRead). low_of read.last) h.1)
 rises_with old new (Ok None) most h = tt
 rises_with old new (Err why) most h = tt
+
+-- ---- the first row
+
+pub first_behind : (old new : RowsRead) (next : Option Row) → ReadsRow old new (Ok next)
+    → IfSome next (λ row. row.word < low_of new.last)
+first_behind old new None h = tt
+first_behind old new (Some row) h =
+    subst (λ (read : RowsRead). row.word < low_of read.last) (sym h.1) (omega arith)
+
+pub first_small : (old new : RowsRead) (next : Option Row) → old.k ≤ 31 → ReadsRow old new (Ok next)
+    → IfSome next (λ row. row.word < 2 ^ 62)
+first_small old new None most h = tt
+first_small old new (Some row) most h = word-small old.k row.word most h.0.word
+
+pub first_fits : (old new : RowsRead) (next : Option Row) → ReadsRow old new (Ok next)
+    → IfSome next (λ row. row.word < 4 ^ new.k)
+first_fits old new None h = tt
+first_fits old new (Some row) h = subst (λ (read : RowsRead). row.word < 4 ^ read.k) (sym h.1) h.0.word

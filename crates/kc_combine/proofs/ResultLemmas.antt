@@ -8,7 +8,7 @@ use Rattle.kc_tally.specs.declared.row.Row.{Row}
 use Rattle.kc_tally.specs.Tally.{row_of, count_of, total_of, AreOrderedRows, AreRows}
 use Rattle.kc_tally.specs.Sum.{IsSum}
 use Rattle.kc_tally.proofs.Tallies.{RiseWithin, RiseWithin-rest, count_of-here, count_of-low, count_of-past, one_sum, ordered-RiseWithin}
-use Rattle.kc_combine.specs.Combined.{counts_in, no_counts_in, sum_of, IsCombined, TakesRow}
+use Rattle.kc_combine.specs.Combined.{AreCombinedBelow, counts_in, no_counts_in, sum_of, IsCombined, TakesRow}
 use Rattle.kc_combine.specs.Laws.{HasOneResult, HasResult, MakesRows, SumsTwo, TotalOfSum, TotalWithinFirst}
 use Rattle.kc_combine.proofs.BoundLemmas.{count_of_row}
 use Rattle.kc_combine.proofs.CombinedLemmas.{ordered_within, taken_apart, taken_here, taken_ordered}
@@ -21,7 +21,7 @@ one_result k rule tables rows others is also = one_sum k rows [] rows others
     (record { ordered = is.ordered; counts = λ n h. omega arith })
     (record { ordered = also.ordered; counts = λ n h. let same = also.counts n h ∙ sym (is.counts n h) in omega (arith, same) })
 
--- the words below n, with what the rule makes of their counts
+-- the words below n, with the rule's results for their counts
 record IsMadeTo (n : ℕ) (rule : List ℕ → ℕ) (tables : List (List Row)) (rows : List Row) : Type 0 where
   ordered : AreOrderedRows n rows
   counts : (m : ℕ) → m < n → count_of rows m ≡ rule (counts_in tables m)
@@ -214,11 +214,17 @@ totals_by_words bound (table ∷ tables) are =
     (λ n h. sum_by-cons (λ count. count) (count_of table n) (counts_in tables n)) in
     omega (arith, here, rest, whole, both, split)
 
+-- what sums combine below a bound has the counts of the tables
+pub total_below : (bound : ℕ) (tables : List (List Row)) (rows : List Row) → AreCombinedBelow bound sum_of tables rows
+    → total_of rows ≡ sum_by total_of tables
+total_below bound tables rows are =
+    ordered_total bound rows are.ordered
+    ∙ sum_to_same bound (count_of rows) (λ n. sum_of (counts_in tables n)) are.counts
+    ∙ sym (totals_by_words bound tables are.given)
+
 pub total_of_sum : TotalOfSum
 total_of_sum k tables rows are is =
-    ordered_total (4 ^ k) rows is.ordered
-    ∙ sum_to_same (4 ^ k) (count_of rows) (λ n. sum_of (counts_in tables n)) is.counts
-    ∙ sym (totals_by_words (4 ^ k) tables are)
+    total_below (4 ^ k) tables rows (record { ordered = is.ordered; given = are; counts = is.counts })
 
 pub total_within_first : TotalWithinFirst
 total_within_first k rule first others rows keeps are is =

@@ -1,4 +1,4 @@
--- Several tables that are put together word by word: the least word next.
+-- Several tables combined word by word: the least word next.
 use Rattle.std.proofs.Common.{◌≡◌, ℕ, zero, suc, ◌+◌, ◌-◌, ◌^◌, ◌<◌, ◌≤◌, min, All, List, [], ◌∷◌, ◌++◌, refl, ap, sym, subst, arith, inl, inr}
 use Rattle.std.specs.Prelude.{Option, Some, None, IfSome}
 use Rattle.kc_tally.specs.declared.row.Row.{Row}
@@ -7,7 +7,8 @@ use Rattle.kc_combine.specs.declared.gives_rows.GivesRows.{Ghosts}
 use Rattle.kc_tally.specs.Tally.{row_of}
 use Rattle.kc_tally.specs.Sum.{lesser}
 use Rattle.kc_combine.specs.Combined.{IsTooLarge, MakesNothingOfNone, TakeRows, TakesRow}
-use Rattle.kc_combine.specs.Aheads.{BeginAt, HaveLength, HaveTaken, heads_of, least_from, lengths_of, word_of}
+use Rattle.kc_combine.specs.Whences.{Whence}
+use Rattle.kc_combine.specs.Aheads.{BeginAt, HaveLength, HaveTaken, heads_of, least_from, whences_of, word_of}
 use Rattle.kc_combine.specs.Walks.{IsWalking, left_from}
 use Rattle.kc_combine.proofs.CombinedLemmas.{combined_more, is_too_large}
 
@@ -70,27 +71,28 @@ lesser_small most None (Some row) from small = small
 lesser_small most (Some least) None from small = from
 lesser_small most (Some least) (Some row) from small = omega (arith, from, small)
 
-pub first-length : (k n : ℕ) (ns : List ℕ) → All (λ m. m ≡ k) (n ∷ ns) → n ≡ k
-first-length k n ns are = are zero n (omega arith)
+pub first-length : (k : ℕ) (from : Whence) (others : List Whence) → All (λ from. from.k ≡ k) (from ∷ others) → from.k ≡ k
+first-length k from others are = are zero from (omega arith)
 
-pub other-lengths : (k n : ℕ) (ns : List ℕ) → All (λ m. m ≡ k) (n ∷ ns) → All (λ m. m ≡ k) ns
-other-lengths k n ns are i d h = are (suc i) d (omega (arith, h))
+pub other-lengths : (k : ℕ) (from : Whence) (others : List Whence) → All (λ from. from.k ≡ k) (from ∷ others)
+    → All (λ from. from.k ≡ k) others
+other-lengths k from others are i d h = are (suc i) d (omega (arith, h))
 
 fits_from : {R F : Type 0} {G : Ghosts R F} (k word : ℕ) (least : Option ℕ) (aheads : List (Ahead R F G)) → IfSome least (λ l. l < 4 ^ k)
-    → HaveLength G.k k aheads → least_from least (heads_of aheads) ≡ Some word → word < 4 ^ k
+    → HaveLength G.whence k aheads → least_from least (heads_of aheads) ≡ Some word → word < 4 ^ k
 fits_from k word None [] from have e = absurd (none-some e)
 fits_from k word (Some least) [] from have e = subst (λ w. w < 4 ^ k) (some-inj e) from
 fits_from {G = G} k word least (ahead ∷ aheads) from have e =
     fits_from k word (lesser least (word_of ahead.head)) aheads
     (lesser_small (4 ^ k) least ahead.head from
-    (subst (λ n. IfSome ahead.head (λ row. row.word < 4 ^ n)) (first-length k (G.k ahead.reading) (lengths_of G.k aheads) have) ahead.fits))
-    (other-lengths k (G.k ahead.reading) (lengths_of G.k aheads) have) e
+    (subst (λ n. IfSome ahead.head (λ row. row.word < 4 ^ n)) (first-length k (G.whence ahead.reading) (whences_of G.whence aheads) have) ahead.fits))
+    (other-lengths k (G.whence ahead.reading) (whences_of G.whence aheads) have) e
 
-pub fits_least : {R F : Type 0} {G : Ghosts R F} (k word : ℕ) (aheads : List (Ahead R F G)) → HaveLength G.k k aheads
+pub fits_least : {R F : Type 0} {G : Ghosts R F} (k word : ℕ) (aheads : List (Ahead R F G)) → HaveLength G.whence k aheads
     → least_from None (heads_of aheads) ≡ Some word → word < 4 ^ k
 fits_least k word aheads have e = fits_from k word None aheads tt have e
 
--- fewer words are left once all begin behind it
+-- fewer words are left once all begin after it
 pub fewer_left : {R F : Type 0} {G : Ghosts R F} (word : ℕ) (aheads later : List (Ahead R F G)) → least_from None (heads_of aheads) ≡ Some word
     → BeginAt (word + 1) (heads_of later) → left_from (least_from None (heads_of later)) < left_from (least_from None (heads_of aheads))
 fewer_left word aheads later e begin =

@@ -1,4 +1,4 @@
--- The table text of what a rule makes of several tables, which is written row by row.
+-- The table text of a combination of several tables, written row by row.
 use Rattle.std.proofs.Common.{ℕ, ◌^◌, List, [], ◌∷◌, All, zero-le, subst, arith}
 use Rattle.std.proofs.lemmas.List.Elements.{All-nil}
 use Rattle.std.specs.Prelude.{Option, Some, None}
@@ -9,8 +9,9 @@ use Rattle.kc_report.specs.declared.header.Header.{Header}
 use Rattle.kc_combine.specs.declared.ahead.Ahead.{Ahead}
 use Rattle.kc_combine.specs.declared.gives_rows.GivesRows.{Ghosts}
 use Rattle.kc_combine.specs.declared.written_tables.CombineFault.{CombineFault}
-use Rattle.kc_combine.specs.declared.written_tables.CombineFault.TheVariants.{Table, TooLarge, Write, Memory}
-use Rattle.kc_combine.specs.Aheads.{AreWhole, BeginAt, HaveLength, heads_of, lengths_of}
+use Rattle.kc_combine.specs.declared.written_tables.CombineFault.TheVariants.{Table, TooLarge, Write, Memory, Unlike}
+use Rattle.kc_combine.specs.Whences.{Whence}
+use Rattle.kc_combine.specs.Aheads.{AreWhole, BeginAt, HaveLength, heads_of, whences_of}
 use Rattle.kc_combine.specs.Combined.{MakesNothingOfNone}
 use Rattle.kc_combine.specs.Walks.{GoesOn, IsWalking}
 use Rattle.kc_combine.specs.WrittenTables.{FailsToWrite, IsResultOf, StandAtStart, StopsBehind, no_rows}
@@ -38,28 +39,28 @@ walks_from_start Gave Whole rule aheads start = record {
   combined = combined_none rule (no_rows aheads) (none_ordered aheads);
 }
 
--- ---- behind the last row
+-- ---- after the last row
 
 -- whole tables have words of their length
-whole_words : {R F : Type 0} {G : Ghosts R F} (Whole : R → List Row → Type 0) (k_of : R → ℕ) (k : ℕ)
-    → ((reading : R) (rows : List Row) → Whole reading rows → AreOrderedRows (4 ^ k_of reading) rows)
-    → (aheads : List (Ahead R F G)) (tables : List (List Row)) → HaveLength k_of k aheads → AreWhole Whole aheads tables
+whole_words : {R F : Type 0} {G : Ghosts R F} (Whole : R → List Row → Type 0) (whence : R → Whence) (k : ℕ)
+    → ((reading : R) (rows : List Row) → Whole reading rows → AreOrderedRows (4 ^ (whence reading).k) rows)
+    → (aheads : List (Ahead R F G)) (tables : List (List Row)) → HaveLength whence k aheads → AreWhole Whole aheads tables
     → All (λ table. AreOrderedRows (4 ^ k) table) tables
-whole_words Whole k_of k law [] [] have whole = All-nil _
-whole_words Whole k_of k law [] (rows ∷ tables) have whole = absurd whole
-whole_words Whole k_of k law (ahead ∷ aheads) [] have whole = absurd whole
-whole_words Whole k_of k law (ahead ∷ aheads) (rows ∷ tables) have whole = all-of rows tables
-    (subst (λ n. AreOrderedRows (4 ^ n) rows) (first-length k (k_of ahead.reading) (lengths_of k_of aheads) have)
+whole_words Whole whence k law [] [] have whole = All-nil _
+whole_words Whole whence k law [] (rows ∷ tables) have whole = absurd whole
+whole_words Whole whence k law (ahead ∷ aheads) [] have whole = absurd whole
+whole_words Whole whence k law (ahead ∷ aheads) (rows ∷ tables) have whole = all-of rows tables
+    (subst (λ n. AreOrderedRows (4 ^ n) rows) (first-length k (whence ahead.reading) (whences_of whence aheads) have)
     (law ahead.reading rows whole.0))
-    (whole_words Whole k_of k law aheads tables (other-lengths k (k_of ahead.reading) (lengths_of k_of aheads) have) whole.1)
+    (whole_words Whole whence k law aheads tables (other-lengths k (whence ahead.reading) (whences_of whence aheads) have) whole.1)
 
-pub result_of : {R F : Type 0} {G : Ghosts R F} (Gave Whole : R → List Row → Type 0) (k_of : R → ℕ) (k : ℕ) (rule : List ℕ → ℕ)
+pub result_of : {R F : Type 0} {G : Ghosts R F} (Gave Whole : R → List Row → Type 0) (whence : R → Whence) (k : ℕ) (rule : List ℕ → ℕ)
     (aheads : List (Ahead R F G)) (rows : List Row) → MakesNothingOfNone rule
-    → ((reading : R) (rows : List Row) → Whole reading rows → AreOrderedRows (4 ^ k_of reading) rows)
-    → HaveLength k_of k aheads → GoesOn Gave Whole rule aheads rows None → IsResultOf Whole rule k aheads rows
-result_of Gave Whole k_of k rule aheads rows nothing law have ends =
+    → ((reading : R) (rows : List Row) → Whole reading rows → AreOrderedRows (4 ^ (whence reading).k) rows)
+    → HaveLength whence k aheads → GoesOn Gave Whole rule aheads rows None → IsResultOf Whole rule k aheads rows
+result_of Gave Whole whence k rule aheads rows nothing law have ends =
     let made = is_combined Gave Whole k rule aheads rows nothing
-    (λ tables whole. whole_words Whole k_of k law aheads tables have whole) ends in
+    (λ tables whole. whole_words Whole whence k law aheads tables have whole) ends in
     record { tables = made.0; whole = made.1; combined = made.2 }
 
 -- ---- where it stops
@@ -71,4 +72,5 @@ pub fails_behind : {R F : Type 0} {G : Ghosts R F} (Gave Whole : R → List Row 
 fails_behind Gave Whole Fails rule header start now aheads rows (Table fault) h = (rows, h)
 fails_behind Gave Whole Fails rule header start now aheads rows TooLarge h = (rows, h)
 fails_behind Gave Whole Fails rule header start now aheads rows Write h = (rows, h)
+fails_behind Gave Whole Fails rule header start now aheads rows Unlike h = absurd h
 fails_behind Gave Whole Fails rule header start now aheads rows Memory h = absurd h

@@ -1,4 +1,4 @@
--- Tables that are read row by row, each with its next row at hand.
+-- Tables that are read row by row, each with its next row already read.
 -- Source: this project's own.
 use Rattle.std.specs.Prelude.{◌≡◌, ◌⊎◌, ℕ, zero, suc, ◌+◌, ◌≤◌, All, IfSome, List, map, [], ◌∷◌, ◌++◌, Option}
 use Rattle.std.specs.Prelude.{None, Some}
@@ -6,16 +6,17 @@ use Rattle.kc_tally.specs.declared.row.Row.{Row}
 use Rattle.kc_combine.specs.declared.ahead.Ahead.{Ahead}
 use Rattle.kc_combine.specs.declared.gives_rows.GivesRows.{Ghosts}
 use Rattle.kc_combine.specs.Combined.{TakesRow}
+use Rattle.kc_combine.specs.Whences.{Whence}
 use Rattle.kc_tally.specs.Sum.{lesser}
 
--- Of a table these rows were taken, and the next one is at hand. `Gave` holds of a reading and the rows that it gave so
--- far, and `Whole` where they are all.
+-- These rows of a table were taken, and the next one is already read. `Gave` holds for a reading and the rows that it
+-- has given so far, and `Whole` if they are all of its rows.
 abbrev pub HasTaken : {R : Type 0} → (R → List Row → Type 0) → (R → List Row → Type 0) → R → Option Row → List Row
     → Type 0
 HasTaken Gave Whole reading None rows = Whole reading rows
 HasTaken Gave Whole reading (Some next) rows = Gave reading (rows ++ next ∷ [])
 
--- so of each table
+-- the same for each table
 abbrev pub HaveTaken : {R F : Type 0} {G : Ghosts R F} → (R → List Row → Type 0) → (R → List Row → Type 0)
     → List (Ahead R F G) → List (List Row) → Type 0
 HaveTaken Gave Whole [] [] = Unit {0}
@@ -27,43 +28,43 @@ HaveTaken Gave Whole aheads tables = ⊥
 abbrev pub heads_of : {R F : Type 0} {G : Ghosts R F} → List (Ahead R F G) → List (Option Row)
 heads_of aheads = map (λ ahead. ahead.head) aheads
 
--- the next row, where there is one, has this word or a greater one
+-- the next row, if there is one, has this word or a greater one
 abbrev pub BeginsAt : ℕ → Option Row → Type 0
 BeginsAt word head = IfSome head (λ row. word ≤ row.word)
 
--- so each of these
+-- the same for each of these
 abbrev pub BeginAt : ℕ → List (Option Row) → Type 0
 BeginAt word [] = Unit {0}
 BeginAt word (head ∷ heads) = BeginsAt word head × BeginAt word heads
 
--- so many of them begin behind this word, and the others at it or behind it
+-- the first i of them begin after this word, and the others at it or after it
 abbrev pub BeginTo : ℕ → ℕ → List (Option Row) → Type 0
 BeginTo zero word heads = BeginAt word heads
 BeginTo (suc i) word [] = ⊥
 BeginTo (suc i) word (head ∷ heads) = BeginsAt (word + 1) head × BeginTo i word heads
 
--- one of these rows is this
+-- one of these rows is this one
 abbrev pub HasHead : List (Option Row) → Row → Type 0
 HasHead [] row = ⊥
 HasHead (head ∷ heads) row = (head ≡ Some row) ⊎ HasHead heads row
 
--- the word of a row, where there is one
+-- the word of a row, if there is one
 abbrev pub word_of : Option Row → Option ℕ
 word_of None = None
 word_of (Some row) = Some row.word
 
--- the least of this word and of the words of these rows, where there is one
+-- the least of this word and the words of these rows, if there is any
 abbrev pub least_from : Option ℕ → List (Option Row) → Option ℕ
 least_from least [] = least
 least_from least (head ∷ heads) = least_from (lesser least (word_of head)) heads
 
--- the least word of these rows, or none, where there is no row
+-- the least word of these rows, or None if there is no row
 abbrev pub IsLeastWord : List (Option Row) → Option ℕ → Type 0
 IsLeastWord heads None = All (λ head. head ≡ None) heads
 IsLeastWord heads (Some word) =
     All (λ head. IfSome head (λ row. word ≤ row.word)) heads × ((row : Row) × HasHead heads row × (row.word ≡ word))
 
--- of the first tables, so many, the rows of this word were taken, with these counts
+-- the rows of this word, with these counts, were taken from the first i tables
 abbrev pub HaveTakenTo : {R F : Type 0} {G : Ghosts R F} → (R → List Row → Type 0) → (R → List Row → Type 0) → ℕ
     → List (Ahead R F G) → List (List Row) → List (List Row) → ℕ → List ℕ → Type 0
 HaveTakenTo Gave Whole zero aheads befores afters word counts = HaveTaken Gave Whole aheads befores
@@ -72,16 +73,16 @@ HaveTakenTo Gave Whole (suc i) (ahead ∷ aheads) (before ∷ befores) (after �
     × HaveTakenTo Gave Whole i aheads befores afters word counts
 HaveTakenTo Gave Whole i aheads befores afters word counts = ⊥
 
--- the lengths of the words of the tables
-abbrev pub lengths_of : {R F : Type 0} {G : Ghosts R F} → (R → ℕ) → List (Ahead R F G) → List ℕ
-lengths_of k_of aheads = map (λ ahead. k_of ahead.reading) aheads
+-- what stays the same of each table while its rows are given
+abbrev pub whences_of : {R F : Type 0} {G : Ghosts R F} → (R → Whence) → List (Ahead R F G) → List Whence
+whences_of whence aheads = map (λ ahead. whence ahead.reading) aheads
 
 -- the words of each table have this length
-abbrev pub HaveLength : {R F : Type 0} {G : Ghosts R F} → (R → ℕ) → ℕ → List (Ahead R F G) → Type 0
-HaveLength k_of k aheads = All (λ n. n ≡ k) (lengths_of k_of aheads)
+abbrev pub HaveLength : {R F : Type 0} {G : Ghosts R F} → (R → Whence) → ℕ → List (Ahead R F G) → Type 0
+HaveLength whence k aheads = All (λ from. from.k ≡ k) (whences_of whence aheads)
 
--- of one of the tables these rows were taken and then one more, behind which this fault came. `Fails` holds of a
--- reading, the rows that it gave, and the fault that came then
+-- these rows were taken from one of the tables, then one more, and after that the table failed with this fault. `Fails`
+-- holds for a reading, the rows that it gave, and the fault after them
 abbrev pub FailsAt : {R F : Type 0} {G : Ghosts R F} → (R → List Row → F → Type 0) → List (Ahead R F G)
     → List (List Row) → F → Type 0
 FailsAt Fails [] [] fault = ⊥
@@ -89,7 +90,7 @@ FailsAt Fails (ahead ∷ aheads) (rows ∷ tables) fault =
     ((row : Row) × Fails ahead.reading (rows ++ row ∷ []) fault) ⊎ FailsAt Fails aheads tables fault
 FailsAt Fails aheads tables fault = ⊥
 
--- these rows are all that the tables gave
+-- these rows are all rows of the tables
 abbrev pub AreWhole : {R F : Type 0} {G : Ghosts R F} → (R → List Row → Type 0) → List (Ahead R F G)
     → List (List Row) → Type 0
 AreWhole Whole [] [] = Unit {0}

@@ -1,4 +1,4 @@
--- The rules make nothing of a word that no table has.
+-- The rules give 0 for a word that no table has.
 -- Source: this project's own.
 use Rattle.std.specs.Prelude.{◌≡◌, ℕ, nat_le, ◌&&◌, Bool, true, false, if◌then◌else◌, List, [], ◌∷◌, refl}
 use Rattle.std.proofs.Common.{arith}

@@ -1,4 +1,5 @@
 pub mod Combined
+pub mod Whences
 pub mod Aheads
 pub mod Walks
 pub mod CombiningLaws
@@ -6,4 +7,10 @@ pub mod Taking
 pub mod Laws
 pub mod MergedTables
 pub mod OpenTables
+pub mod KeptTables
+pub mod Combinings
+pub mod CombinedHeaders
+pub mod CombinedTexts
+pub mod JudgedTexts
 pub mod WrittenTables
+pub mod LoadedTables

@@ -1,4 +1,4 @@
--- Any number of tables merged, and what their texts say of it: source, our formats page ("Merging").
+-- Merging any number of tables, and the table text of the result: source, our formats page ("Merging").
 use Rattle.std.specs.Prelude.{◌≡◌, ◌↔◌, ◌^◌, ◌≤◌, All, List, [], ◌∷◌, ◌++◌, map, sum_by}
 use Rattle.std.specs.Prelude.{Option, None, IfSome, Result, Ok, Err}
 use Rattle.kc_kmer.specs.Rule.{CountingRule}
@@ -10,33 +10,33 @@ use Rattle.kc_report.specs.Merging.{AreAlike, counted_from, IsCountRead, joined_
 use Rattle.kc_report.specs.Table.{table_text}
 use Rattle.kc_combine.specs.Combined.{IsCombined, sum_of}
 
--- a table text as it was read: its tally, and the origin where it has one
+-- a table text that was read: its tally, and its origin if it has one
 abbrev pub TableSeen : Type 0
 TableSeen = TallySeen × Option Origin
 
--- each two of the tables match
+-- every two of the tables match
 abbrev pub AreAllAlike : List TableSeen → Type 0
 AreAllAlike tables = All (λ table. All (λ other. AreAlike table.0 other.0 table.1 other.1) tables) tables
 
--- the origin of all together: there is one where each table has one
+-- the origin of all together; there is one if every table has one
 abbrev pub joined_origins : List (Option Origin) → Option Origin
 joined_origins [] = None
 joined_origins (origin ∷ []) = origin
 joined_origins (origin ∷ another ∷ origins) = joined_origin origin (joined_origins (another ∷ origins))
 
--- neither what was counted together nor the reads together pass 2 ^ 62
+-- the sum of all counts and the sum of the reads are at most 2 ^ 62
 pub record AreAllSmall (tables : List TableSeen) : Type 0 where
   pub totals : sum_by (λ table. total_of table.0.rows) tables ≤ 2 ^ 62
   pub reads : IfSome (joined_origins (map (λ table. table.1) tables)) (λ origin. origin.reads ≤ 2 ^ 62)
 
--- the value is the sum of tallies of words of one length, of which all or none count both strands
+-- the value is the sum of tallies with words of one length, and with one setting of both strands
 pub record IsSumOfAll (tallies : List TallySeen) (sum : TallySeen) : Type 0 where
   pub k : All (λ tally. sum.k ≡ tally.k) tallies
   pub both : All (λ tally. sum.both ≡ tally.both) tallies
   pub rows : IsCombined sum.k sum_of (map (λ tally. tally.rows) tallies) sum.rows
 
--- What comes of tables that are merged: their sum, with the origin of all; or that they don't match; else that a sum is
--- too large; else that memory was refused.
+-- The result of merging tables: their sum, with the common origin; an error, if they don't match; otherwise an error,
+-- if a sum is too large; otherwise an error, if memory was refused.
 abbrev pub MergesAll : List TableSeen → Result TableSeen ReportFault → Type 0
 MergesAll tables (Ok table) = AreAllAlike tables
     × AreAllSmall tables
@@ -47,7 +47,7 @@ MergesAll tables (Err TooLarge) = AreAllAlike tables × (¬ AreAllSmall tables)
 MergesAll tables (Err Memory) = AreAllAlike tables × AreAllSmall tables
 MergesAll tables (Err fault) = ⊥
 
--- of two tables the same comes as where two are merged
+-- for two tables, the result is the same as that of merging two
 abbrev pub MergesTwo : Type 0
 MergesTwo = (table other : TableSeen) (answer : Result TableSeen ReportFault)
     → MergesAll (table ∷ other ∷ []) answer ↔ Merges table.0 other.0 table.1 other.1 answer
@@ -59,18 +59,18 @@ abbrev pub all_reads : List (List Read) → List Read
 all_reads [] = []
 all_reads (reads ∷ inputs) = reads ++ all_reads inputs
 
--- each table is the count of one input under the rule, in this order
+-- each table is the count of one input under the rule, in order
 abbrev pub AreCountsRead : CountingRule → List (List Read) → List TableSeen → Type 0
 AreCountsRead rule [] [] = Unit {0}
 AreCountsRead rule (reads ∷ inputs) (table ∷ tables) = IsCountRead rule reads table × AreCountsRead rule inputs tables
 AreCountsRead rule inputs tables = ⊥
 
--- the table texts of several counts under one rule match
+-- table texts of several counts under one rule match
 abbrev pub AllCountsMatch : Type 0
 AllCountsMatch = (rule : CountingRule) (inputs : List (List Read)) (tables : List TableSeen)
     → AreCountsRead rule inputs tables → AreAllAlike tables
 
--- merged, they have byte for byte the table text of the count of the reads of all inputs, joined
+-- the table text of their merged table is, byte for byte, that of the count of all inputs' reads
 abbrev pub AllMergedText : Type 0
 AllMergedText = (rule : CountingRule) (reads : List Read) (inputs : List (List Read)) (tables : List TableSeen)
     (merged : TableSeen) (whole : TallySeen) → AreCountsRead rule (reads ∷ inputs) tables

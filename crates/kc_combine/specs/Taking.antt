@@ -1,4 +1,4 @@
--- Which count an intersection gives to a word.
+-- The count that an intersection gives a word.
 -- Source: our formats page (`intersect`).
 use Rattle.std.specs.Prelude.{ℕ, List}
 use Rattle.kc_combine.specs.Combined.{first_of, greatest_of, least_of, sum_of}

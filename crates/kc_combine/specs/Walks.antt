@@ -1,4 +1,4 @@
--- Several tables that are put together word by word.
+-- Several tables, combined word by word.
 -- Source: this project's own.
 use Rattle.std.specs.Prelude.{◌≡◌, ℕ, ◌-◌, ◌^◌, List, [], ◌∷◌, ◌++◌, Option, None, Some}
 use Rattle.kc_tally.specs.declared.row.Row.{Row}
@@ -9,14 +9,14 @@ use Rattle.kc_combine.specs.Combined.{AreCombinedBelow, IsTooLarge}
 use Rattle.kc_combine.specs.declared.table_walk.WalkFault.{WalkFault}
 use Rattle.kc_combine.specs.declared.table_walk.WalkFault.TheVariants.{Table, TooLarge}
 
--- the rows below the bound were taken of the tables, and the rule made these rows of them
+-- the rows below the bound were taken from the tables, and these rows combine them
 pub record IsWalking {R F : Type 0} {G : Ghosts R F} (Gave Whole : R → List Row → Type 0) (rule : List ℕ → ℕ)
     (bound : ℕ) (tables : List (List Row)) (aheads : List (Ahead R F G)) (rows : List Row) : Type 0 where
   pub taken : HaveTaken Gave Whole aheads tables
   pub begin : BeginAt bound (heads_of aheads)
   pub combined : AreCombinedBelow bound rule tables rows
 
--- one more row was made; or no word is left, and the tables are whole
+-- one more row was made; or no word is left, and all tables are at their ends
 abbrev pub GoesOn : {R F : Type 0} {G : Ghosts R F} → (R → List Row → Type 0) → (R → List Row → Type 0) → (List ℕ → ℕ)
     → List (Ahead R F G) → List Row → Option Row → Type 0
 GoesOn Gave Whole rule aheads rows (Some row) =
@@ -24,8 +24,8 @@ GoesOn Gave Whole rule aheads rows (Some row) =
 GoesOn Gave Whole rule aheads rows None = (bound : ℕ) × (tables : List (List Row))
     × IsWalking Gave Whole rule bound tables aheads rows × (least_from None (heads_of aheads) ≡ None)
 
--- Why no row is made behind these: a table has this fault behind its next row; or the rule makes of the next word a
--- count above 2 ^ 62.
+-- Why no row is made after these: a table has this fault after its next row; or the rule gives a count above 2 ^ 62 for
+-- the next word.
 abbrev pub StopsAt : {R F : Type 0} {G : Ghosts R F} → (R → List Row → Type 0) → (R → List Row → Type 0)
     → (R → List Row → F → Type 0) → (List ℕ → ℕ) → List (Ahead R F G) → List Row → WalkFault F → Type 0
 StopsAt Gave Whole Fails rule aheads rows (Table fault) = (bound : ℕ) × (tables : List (List Row))
@@ -33,7 +33,7 @@ StopsAt Gave Whole Fails rule aheads rows (Table fault) = (bound : ℕ) × (tabl
 StopsAt Gave Whole Fails rule aheads rows TooLarge = (tables : List (List Row))
     × HaveTaken Gave Whole aheads tables × IsTooLarge rule tables rows
 
--- how far a word is from the greatest
+-- how far a word is from the greatest one
 abbrev pub left_from : Option ℕ → ℕ
 left_from None = 0
 left_from (Some word) = 2 ^ 62 - word

@@ -1,5 +1,5 @@
--- The table text of what a rule makes of several tables, which is written row by row.
--- Source: our formats page ("Table text", "Merging" and the commands over several tables).
+-- The table text of a combination of several tables, written row by row.
+-- Source: our formats page ("The table text", "Merging" and the commands over several tables).
 use Rattle.std.specs.Prelude.{◌≡◌, ◌⊎◌, ℕ, ◌+◌, ◌^◌, ◌<◌, List, [], ◌∷◌, ◌++◌, length, map, Option, None, Some}
 use Rattle.kc_io.specs.Sinks.{Written, Drains, HasBegun, HasWritten}
 use Rattle.kc_tally.specs.declared.row.Row.{Row}
@@ -10,7 +10,7 @@ use Rattle.kc_combine.specs.declared.ahead.Ahead.{Ahead}
 use Rattle.kc_combine.specs.declared.gives_rows.GivesRows.{Ghosts}
 use Rattle.kc_combine.specs.declared.table_walk.WalkFault.TheVariants as walking
 use Rattle.kc_combine.specs.declared.written_tables.CombineFault.{CombineFault}
-use Rattle.kc_combine.specs.declared.written_tables.CombineFault.TheVariants.{Table, TooLarge, Write, Memory}
+use Rattle.kc_combine.specs.declared.written_tables.CombineFault.TheVariants.{Table, Unlike, TooLarge, Write, Memory}
 use Rattle.kc_combine.specs.declared.written_tables.Totals.{Totals}
 use Rattle.kc_combine.specs.Aheads.{AreWhole, HaveTaken}
 use Rattle.kc_combine.specs.Combined.{IsCombined}
@@ -20,24 +20,24 @@ use Rattle.kc_combine.specs.Walks.{GoesOn, StopsAt}
 abbrev pub no_rows : {R F : Type 0} {G : Ghosts R F} → List (Ahead R F G) → List (List Row)
 no_rows aheads = map (λ ahead. []) aheads
 
--- the tables stand before their first rows
+-- no row was taken from the tables yet
 abbrev pub StandAtStart : {R F : Type 0} {G : Ghosts R F} → (R → List Row → Type 0) → (R → List Row → Type 0)
     → List (Ahead R F G) → Type 0
 StandAtStart Gave Whole aheads = HaveTaken Gave Whole aheads (no_rows aheads)
 
--- the next row was put behind these, or none came
+-- the next row was put after these, or there was none
 abbrev pub PutsNext : Written → Written → Header → List Row → WritingStand → Option Row → Type 0
 PutsNext start now header rows stand None = HasPutRows start now header rows stand
 PutsNext start now header rows stand (Some row) = HasPutRows start now header (rows ++ row ∷ []) stand
 
--- the rows are what the rule makes of the tables, of which all rows were taken
+-- the rows combine the tables, whose rows were all taken
 pub record IsResultOf {R F : Type 0} {G : Ghosts R F} (Whole : R → List Row → Type 0) (rule : List ℕ → ℕ) (k : ℕ)
     (aheads : List (Ahead R F G)) (rows : List Row) : Type 0 where
   pub tables : List (List Row)
   pub whole : AreWhole Whole aheads tables
   pub combined : IsCombined k rule tables rows
 
--- the table text of what the rule makes of the whole tables was written, and these are its totals
+-- the table text of the combination of the whole tables was written, and these are its totals
 pub record HasWrittenTable {R F : Type 0} {G : Ghosts R F} (Whole : R → List Row → Type 0) (rule : List ℕ → ℕ)
     (header : Header) (start now : Written) (aheads : List (Ahead R F G)) (totals : Totals) : Type 0 where
   pub rows : List Row
@@ -46,13 +46,13 @@ pub record HasWrittenTable {R F : Type 0} {G : Ghosts R F} (Whole : R → List R
   pub distinct : totals.distinct ≡ length rows
   pub total : totals.total ≡ total_of rows
 
--- a front of the header and these rows was taken, and nothing failed
+-- the sink took a prefix of the header and these rows, and nothing failed
 abbrev pub HasTakenFront : Written → Written → Header → List Row → Type 0
 HasTakenFront start now header rows = (left : List ℕ) × Drains start now (front_of header rows) left
 
--- Why the text doesn't go on behind these rows, which the rule makes of the tables so far: a table has a fault; or the
--- count of the next word is above 2 ^ 62, or with it the sum of the counts; or the writer failed, in front of the next
--- row or in the text of all rows.
+-- Why the text does not go on after these rows, which combine the tables so far: a table has a fault; or the count of
+-- the next word, or the sum of the counts with it, is above 2 ^ 62; or the writer failed, before the next row or in the
+-- text of all rows.
 abbrev pub StopsBehind : {R F : Type 0} {G : Ghosts R F} → (R → List Row → Type 0) → (R → List Row → Type 0)
     → (R → List Row → F → Type 0) → (List ℕ → ℕ) → Header → Written → Written → List (Ahead R F G) → List Row
     → CombineFault F → Type 0
@@ -64,9 +64,10 @@ StopsBehind Gave Whole Fails rule header start now aheads rows TooLarge =
 StopsBehind Gave Whole Fails rule header start now aheads rows Write =
     ((row : Row) × GoesOn Gave Whole rule aheads rows (Some row) × HasBegun start now (front_of header rows))
     ⊎ (IsResultOf Whole rule header.k aheads rows × HasBegun start now (text_of header rows))
+StopsBehind Gave Whole Fails rule header start now aheads rows Unlike = ⊥
 StopsBehind Gave Whole Fails rule header start now aheads rows Memory = ⊥
 
--- why the table text was not written whole; where memory was refused, nothing was handed to the writer
+-- why the table text was not written whole; if memory was refused, nothing was handed to the writer
 abbrev pub FailsToWrite : {R F : Type 0} {G : Ghosts R F} → (R → List Row → Type 0) → (R → List Row → Type 0)
     → (R → List Row → F → Type 0) → (List ℕ → ℕ) → Header → Written → Written → List (Ahead R F G)
     → CombineFault F → Type 0

@@ -1,10 +1,10 @@
-//! Tables that are read row by row, each with its next row at hand.
+//! Tables that are read row by row, each with its next row already read.
 ghost use Rattle.std.specs.Prelude.{◌≡◌, ◌≢◌, ◌+◌, ◌^◌, ◌<◌, ◌≤◌, ◌++◌, ◌∷◌, [], List, ℕ, None, Some};
 ghost use Rattle.std.specs.Prelude.{IfErr, IfNone, IfOk, IfSome, OnOk, length};
 ghost use Rattle.kc_tally.specs.declared.row.Row.{Row};
 ghost use Rattle.kc_combine.specs.Combined.{TakesRow, TakeRows};
 ghost use Rattle.kc_combine.specs.Aheads.{BeginAt, BeginsAt, FailsAt, HasTaken, HaveTaken, heads_of, least_from};
-ghost use Rattle.kc_combine.specs.Aheads.{lengths_of, word_of};
+ghost use Rattle.kc_combine.specs.Aheads.{whences_of, word_of};
 ghost use Rattle.kc_tally.specs.Sum.{lesser};
 
 use crate::ahead::Ahead;
@@ -12,14 +12,14 @@ use crate::gives_rows::GivesRows;
 use kc_tally::Row;
 
 impl<R: GivesRows + Drop> Ahead<R> {
-    /// Before the first row, which is asked for.
+    /// Reads the first row.
     ///
     /// # Errors
-    /// The fault that comes in the place of the first row.
+    /// The fault in place of the first row.
     pub fn new(reading: R) -> Result<Ahead<R>, R::Fault>
         ensures taken { R.gave reading []
             → IfOk result (λ ahead. HasTaken R.gave R.gave_all ahead.reading ahead.head []) }
-        ensures same { IfOk result (λ ahead. R.k ahead.reading ≡ R.k reading) }
+        ensures same { IfOk result (λ ahead. R.whence ahead.reading ≡ R.whence reading) }
         ensures fault { R.gave reading [] → IfErr result (λ fault. (after : R) × R.fails after [] fault) }
     {
         let mut reading = reading;
@@ -37,10 +37,10 @@ impl<R: GivesRows + Drop> Ahead<R> {
         }
     }
 
-    /// Takes the next row, where it is of this word, and answers its count; else 0.
+    /// Takes the next row if it has this word, and returns its count; otherwise 0.
     ///
     /// # Errors
-    /// The fault that comes behind that row.
+    /// The fault after that row.
     pub fn take(&mut self, word: u64) -> Result<u64, R::Fault>
         ensures rises { BeginsAt word self.old.head → OnOk result (BeginsAt (word + 1) self.new.head) }
         ensures taken { (rows : List Row) → HasTaken R.gave R.gave_all self.old.reading self.old.head rows
@@ -48,7 +48,7 @@ impl<R: GivesRows + Drop> Ahead<R> {
             × HasTaken R.gave R.gave_all self.new.reading self.new.head after) }
         ensures fault { (rows : List Row) → HasTaken R.gave R.gave_all self.old.reading self.old.head rows
             → IfErr result (λ fault. (row : Row) × R.fails self.new.reading (rows ++ row ∷ []) fault) }
-        ensures same { R.k self.new.reading ≡ R.k self.old.reading }
+        ensures same { R.whence self.new.reading ≡ R.whence self.old.reading }
     {
         let Some(row) = self.head else {
             return Ok(0);
@@ -61,19 +61,19 @@ impl<R: GivesRows + Drop> Ahead<R> {
     }
 }
 
-// The least word of the next rows, where a row is left.
+// The least word of the next rows, if a row is left.
 pub(crate) fn least_word<R: GivesRows + Drop>(aheads: &[Ahead<R>]) -> Option<u64>
     ensures { result ≡ least_from None (heads_of aheads.now) }
 {
     let mut least = None;
     'tables: for ahead in aheads {
-        least = lesser(least, ahead.word());
+        least = lesser_word(least, ahead.word());
     }
     least
 }
 
-// The lesser of two words, where there are two.
-fn lesser(word: Option<u64>, other: Option<u64>) -> Option<u64>
+// The lesser of two words, if there are two.
+fn lesser_word(word: Option<u64>, other: Option<u64>) -> Option<u64>
     ensures { result ≡ lesser word other }
 {
     match (word, other) {
@@ -83,7 +83,7 @@ fn lesser(word: Option<u64>, other: Option<u64>) -> Option<u64>
     }
 }
 
-// Takes the rows of this word of all tables, and puts their counts into `counts`, in the order of the tables: 0 for a
+// Takes the rows of this word from all tables, and puts their counts into `counts`, in the order of the tables: 0 for a
 // table that lacks it.
 //
 // The fault is that of the first table that has one.
@@ -101,7 +101,7 @@ pub(crate) fn take_word<R: GivesRows + Drop>(
         × HaveTaken R.gave R.gave_all aheads.new after) }
     ensures fault { (tables : List (List Row)) → HaveTaken R.gave R.gave_all aheads.old tables
         → IfErr result (FailsAt R.fails aheads.new tables) }
-    ensures same { lengths_of R.k aheads.new ≡ lengths_of R.k aheads.old }
+    ensures same { whences_of R.whence aheads.new ≡ whences_of R.whence aheads.old }
 {
     'tables: for i in 0..aheads.len() {
         counts[i] = aheads[i].take(word)?;

@@ -1,11 +1,11 @@
-//! How a source was seen when the reading of a table text began, which exists only in proofs.
+//! The view of a source when the reading of a table text began, which exists only in proofs.
 ghost use Rattle.std.specs.Prelude.{◌≡◌};
 ghost use Rattle.kc_io.specs.Sources.{Seen};
 
 use kc_io::Source;
 use std::marker::Model;
 
-/// How a source was seen when the reading of a table text began. Proofs alone see it, and it takes no bytes.
+/// The view of a source when the reading of a table text began. Only proofs see it, and it takes no bytes.
 #[derive(Drop)]
 pub struct Begun {
     pub ghost start: { Seen },
@@ -18,7 +18,7 @@ impl Model for Begun {
 }
 
 impl Begun {
-    /// As this source is seen.
+    /// The view of this source now.
     pub fn at<S: Source>(_source: &S) -> Begun
         ensures { result.start ≡ S.seen _source.now }
     {

@@ -1,34 +1,35 @@
-//! What holds of tables that are put together. Each law is the contract of a function that does nothing.
+//! Facts about combined tables. Each law is the contract of a function that does nothing.
 ghost use Rattle.std.specs.Prelude.{◌≡◌, ℕ, [], ◌∷◌};
 ghost use Rattle.kc_combine.specs.Combined.{difference, difference_of_counts, first_of, greatest_of, intersection};
 ghost use Rattle.kc_combine.specs.Combined.{least_of, sum_of, within};
 ghost use Rattle.kc_combine.specs.Laws.{HasOneResult, HasResult, KeepsFirst, MakesRows, StaysWithin, SumsTwo};
 ghost use Rattle.kc_combine.specs.Laws.{TotalOfSum, TotalWithinFirst};
+ghost use Rattle.kc_combine.specs.LoadedTables.{WritesMerged};
 ghost use Rattle.kc_combine.specs.MergedTables.{AllCountsMatch, AllMergedText, MergesTwo};
 
-/// A rule makes exactly one list of rows of the tables.
+/// Tables have exactly one combination by each rule.
 pub fn one_result()
     ensures some { HasResult }
     ensures one { HasOneResult }
 {}
 
-/// The sum of two tables is that of two tallies.
+/// The combination of two tables by the sum of the counts is their sum.
 pub fn sum_of_two()
     ensures { SumsTwo }
 {}
 
-/// Of rows that tallies may have a rule makes such rows, where their counts are together at most 2^62.
+/// A combination of rows that tallies may have is again such rows, if its counts add up to at most 2^62.
 pub fn made_rows()
     ensures { MakesRows }
 {}
 
-/// The counts of a sum are together the counts of the tables.
+/// The counts of a sum add up to the counts of all tables.
 pub fn total_of_sum()
     ensures { TotalOfSum }
 {}
 
-/// What an intersection with the least or the first count, a difference, a difference of counts or a filter keeps has
-/// at most the counts of the first table, each and together.
+/// An intersection with the least or the first count, a difference, a difference of counts and a filter have at most
+/// the counts of the first table, each and in total.
 pub fn counts_of_first()
     ensures least { KeepsFirst (intersection least_of) }
     ensures first { KeepsFirst (intersection first_of) }
@@ -38,12 +39,12 @@ pub fn counts_of_first()
     ensures total { TotalWithinFirst }
 {}
 
-/// An intersection with the greatest count makes no count that is above those of the tables.
+/// An intersection with the greatest count has no count above those of the tables.
 pub fn greatest_count_stays()
     ensures { StaysWithin (intersection greatest_of) }
 {}
 
-/// Worked rows of the rules: the counts of a word, and what is made of them.
+/// Worked rows of the rules: the counts of a word, and the results.
 pub fn worked_counts()
     ensures sum { sum_of (1 ∷ 1 ∷ 1 ∷ []) ≡ 3 }
     ensures last { sum_of (0 ∷ 0 ∷ 5 ∷ []) ≡ 5 }
@@ -62,14 +63,19 @@ pub fn worked_counts()
     ensures above { within 2 4 (5 ∷ []) ≡ 0 }
 {}
 
-/// Two tables merged in the way of any number of tables are two tables merged.
+/// Merging two tables as any number of tables is the same as merging two.
 pub fn merge_of_two()
     ensures { MergesTwo }
 {}
 
-/// The table texts of several counts under one rule match, and merged they have the table text of the count of the
-/// reads of all inputs.
+/// Table texts of several counts under one rule match, and the table text of their merged table is that of the count of
+/// all inputs' reads.
 pub fn merged_texts()
     ensures matched { AllCountsMatch }
     ensures text { AllMergedText }
+{}
+
+/// The table text that is written for merged tables is that of their merged table.
+pub fn written_merge()
+    ensures { WritesMerged }
 {}

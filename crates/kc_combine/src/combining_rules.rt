@@ -1,11 +1,11 @@
-//! The rules by which commands put tables together.
+//! The rules by which commands combine tables.
 ghost use Rattle.std.specs.Prelude.{◌≡◌, ◌^◌, ◌<◌, ◌≤◌, IfSome, IfNone};
 ghost use Rattle.kc_combine.specs.Taking.{taken_by};
 
 use crate::combines::Combines;
 use crate::counts_of_word::{
-    at_most, each_has, first_count, greatest_count, least_count, left_of, no_other_has,
-    total_of_counts,
+    are_positive, are_zero, checked_count, first_count, greatest_count, least_count,
+    remaining_count, total_of_counts,
 };
 
 /// The sum of the counts.
@@ -25,7 +25,7 @@ impl Combines for Sum {
     }
 }
 
-/// Which count an intersection gives to a word that each table has.
+/// Which count an intersection gives a word that every table has.
 #[derive(Clone, Copy, Debug, PartialEq, Eq)]
 pub enum Take {
     /// The least one.
@@ -39,22 +39,22 @@ pub enum Take {
 }
 
 impl Take {
-    // What is taken of these counts, or none where that is above 2^62.
+    // The result for these counts, or none if it is above 2^62.
     fn of(self, counts: &[u64]) -> Option<u64>
         ensures some { IfSome result (λ count. count ≡ taken_by self counts.now) }
         ensures most { IfSome result (λ count. count ≤ 2 ^ 62) }
         ensures none { IfNone result (2 ^ 62 < taken_by self counts.now) }
     {
         match self {
-            Take::Least => at_most(least_count(counts)),
-            Take::Greatest => at_most(greatest_count(counts)),
+            Take::Least => checked_count(least_count(counts)),
+            Take::Greatest => checked_count(greatest_count(counts)),
             Take::Sum => total_of_counts(counts),
-            Take::First => at_most(first_count(counts)),
+            Take::First => checked_count(first_count(counts)),
         }
     }
 }
 
-/// The words that each table has.
+/// The words that every table has.
 #[derive(Clone, Copy, Debug, PartialEq, Eq)]
 pub struct Intersection {
     /// The count that such a word gets.
@@ -71,14 +71,14 @@ impl Combines for Intersection {
     ghost nothing = { λ rule. none_in_common (taken_by rule.take) };
 
     fn count(&self, counts: &[u64]) -> Option<u64> {
-        if !each_has(counts) {
+        if !are_positive(counts) {
             return Some(0);
         }
         self.take.of(counts)
     }
 }
 
-/// The words that the first table alone has, with their counts.
+/// The words that only the first table has, with their counts.
 #[derive(Clone, Copy, Debug, PartialEq, Eq)]
 pub struct Difference;
 
@@ -94,14 +94,14 @@ impl Combines for Difference {
         let Some((first, others)) = counts.split_first() else {
             return Some(0);
         };
-        if !no_other_has(others) {
+        if !are_zero(others) {
             return Some(0);
         }
-        at_most(*first)
+        checked_count(*first)
     }
 }
 
-/// The counts of the first table less those of the others.
+/// The counts of the first table minus those of the others.
 #[derive(Clone, Copy, Debug, PartialEq, Eq)]
 pub struct CountDifference;
 
@@ -117,11 +117,11 @@ impl Combines for CountDifference {
         let Some((first, others)) = counts.split_first() else {
             return Some(0);
         };
-        at_most(left_of(*first, others))
+        checked_count(remaining_count(*first, others))
     }
 }
 
-/// The words of the first table whose counts are at least the lower bound and at most the upper one.
+/// The words of the first table with counts within the bounds, inclusive.
 #[derive(Clone, Copy, Debug, PartialEq, Eq)]
 pub struct Within {
     /// The lower bound.
@@ -143,6 +143,6 @@ impl Combines for Within {
         if count < self.least || self.most < count {
             return Some(0);
         }
-        at_most(count)
+        checked_count(count)
     }
 }

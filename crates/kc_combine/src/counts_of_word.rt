@@ -1,23 +1,23 @@
-//! What rules compute of the counts of one word.
+//! What rules compute from the counts of one word.
 ghost use Rattle.std.specs.Prelude.{◌≡◌, ◌^◌, ◌<◌, ◌≤◌, ◌-◌, IfSome, IfNone};
 ghost use Rattle.kc_combine.specs.Combined.{all_have, first_of, greatest_of, least_of, none_has, sum_of};
 
 /// The greatest count.
-pub(crate) const MOST: u64 = 1 << 62;
+pub(crate) const MAX_COUNT: u64 = 1 << 62;
 
-// The count, or none where it is above 2^62.
-pub(crate) fn at_most(count: u64) -> Option<u64>
+// The count, or none if it is above 2^62.
+pub(crate) fn checked_count(count: u64) -> Option<u64>
     ensures some { IfSome result (λ same. same ≡ count) }
     ensures most { IfSome result (λ same. same ≤ 2 ^ 62) }
     ensures none { IfNone result (2 ^ 62 < count) }
 {
-    if count <= MOST {
+    if count <= MAX_COUNT {
         return Some(count);
     }
     None
 }
 
-// The sum of these counts, or none where it is above 2^62.
+// The sum of these counts, or none if it is above 2^62.
 pub(crate) fn total_of_counts(counts: &[u64]) -> Option<u64>
     ensures some { IfSome result (λ sum. sum ≡ sum_of counts.now) }
     ensures most { IfSome result (λ sum. sum ≤ 2 ^ 62) }
@@ -25,7 +25,7 @@ pub(crate) fn total_of_counts(counts: &[u64]) -> Option<u64>
 {
     let mut sum = 0;
     'counts: for count in counts {
-        if *count > MOST - sum {
+        if *count > MAX_COUNT - sum {
             return None;
         }
         sum += *count;
@@ -33,7 +33,7 @@ pub(crate) fn total_of_counts(counts: &[u64]) -> Option<u64>
     Some(sum)
 }
 
-// The first of these counts, or 0 where there is none.
+// The first of these counts, or 0 if there is none.
 pub(crate) fn first_count(counts: &[u64]) -> u64
     ensures { result ≡ first_of counts.now }
 {
@@ -43,7 +43,7 @@ pub(crate) fn first_count(counts: &[u64]) -> u64
     }
 }
 
-// The least of these counts, or 0 where there is none.
+// The least of these counts, or 0 if there is none.
 pub(crate) fn least_count(counts: &[u64]) -> u64
     ensures { result ≡ least_of counts.now }
 {
@@ -57,7 +57,7 @@ pub(crate) fn least_count(counts: &[u64]) -> u64
     least
 }
 
-// The greatest of these counts, or 0 where there is none.
+// The greatest of these counts, or 0 if there is none.
 pub(crate) fn greatest_count(counts: &[u64]) -> u64
     ensures { result ≡ greatest_of counts.now }
 {
@@ -69,7 +69,7 @@ pub(crate) fn greatest_count(counts: &[u64]) -> u64
 }
 
 // Whether each count is above 0.
-pub(crate) fn each_has(counts: &[u64]) -> bool
+pub(crate) fn are_positive(counts: &[u64]) -> bool
     ensures { result ≡ all_have counts.now }
 {
     'counts: for count in counts {
@@ -81,7 +81,7 @@ pub(crate) fn each_has(counts: &[u64]) -> bool
 }
 
 // Whether each count is 0.
-pub(crate) fn no_other_has(counts: &[u64]) -> bool
+pub(crate) fn are_zero(counts: &[u64]) -> bool
     ensures { result ≡ none_has counts.now }
 {
     'counts: for count in counts {
@@ -92,8 +92,8 @@ pub(crate) fn no_other_has(counts: &[u64]) -> bool
     true
 }
 
-// What is left of a count once these are taken away.
-pub(crate) fn left_of(count: u64, others: &[u64]) -> u64
+// What is left of a count after these are subtracted.
+pub(crate) fn remaining_count(count: u64, others: &[u64]) -> u64
     ensures { result ≡ count - sum_of others.now }
 {
     let mut left = count;

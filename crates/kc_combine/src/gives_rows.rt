@@ -12,11 +12,12 @@ pub trait GivesRows {
     ghost use Rattle.std.specs.Prelude.{◌≡◌, ◌+◌, ◌^◌, ◌<◌, ◌≤◌, List, ℕ};
     ghost use Rattle.kc_tally.specs.declared.row.Row.{Row};
     ghost use Rattle.kc_tally.specs.Tally.{AreOrderedRows};
+    ghost use Rattle.kc_combine.specs.Whences.{Whence};
 
     // these rows were given so far
     ghost gave: { Self → List Row → Type 0 };
 
-    // they are all, and none is given any more
+    // they are all, and no more come
     ghost gave_all: { Self → List Row → Type 0 };
 
     // after these rows this fault came
@@ -25,10 +26,10 @@ pub trait GivesRows {
     // no word below this comes next
     ghost low: { Self → ℕ };
 
-    // the length of the words
-    ghost k: { Self → ℕ };
+    // what stays the same while rows are given
+    ghost whence: { Self → Whence };
 
-    /// The next row, or none where all were given.
+    /// The next row, or none if all were given.
     ///
     /// # Errors
     /// The fault of the table.
@@ -39,15 +40,17 @@ pub trait GivesRows {
             → IfOk result (λ next. IfNone next (gave_all self.new rows)) }
         ensures rises { IfOk result (λ next. IfSome next (λ row. (low self.old ≤ row.word) × (row.word < 2 ^ 62)
             × (low self.new ≡ row.word + 1))) }
-        ensures word { IfOk result (λ next. IfSome next (λ row. row.word < 4 ^ k self.old)) }
+        ensures word { IfOk result (λ next. IfSome next (λ row. row.word < 4 ^ (whence self.old).k)) }
         ensures count { IfOk result (λ next. IfSome next (λ row. (1 ≤ row.count) × (row.count ≤ 2 ^ 62))) }
         ensures fault { (rows : List Row) → gave self.old rows → IfErr result (fails self.new rows) }
-        ensures same { k self.new ≡ k self.old }
+        ensures same { whence self.new ≡ whence self.old }
         ensures forward { low self.old ≤ low self.new };
 
-    // what was given are rows of words of this length, in the order of their words
-    ghost ordered: { (reading : Self) (rows : List Row) → gave reading rows → AreOrderedRows (4 ^ k reading) rows };
+    // the rows that were given have words of this length, in ascending order
+    ghost ordered: { (reading : Self) (rows : List Row) → gave reading rows
+        → AreOrderedRows (4 ^ (whence reading).k) rows };
 
-    // and so are all of them
-    ghost whole: { (reading : Self) (rows : List Row) → gave_all reading rows → AreOrderedRows (4 ^ k reading) rows };
+    // so do all of them
+    ghost whole: { (reading : Self) (rows : List Row) → gave_all reading rows
+        → AreOrderedRows (4 ^ (whence reading).k) rows };
 }

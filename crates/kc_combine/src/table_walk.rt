@@ -1,8 +1,8 @@
-//! Several tables that are put together word by word.
+//! Several tables, combined word by word.
 ghost use Rattle.std.specs.Prelude.{◌≡◌, ◌^◌, ◌<◌, ◌≤◌, ◌++◌, ◌∷◌, [], List, ℕ, None, Some, IfOk, IfErr};
 ghost use Rattle.std.specs.Prelude.{IfSome, IfNone, length};
 ghost use Rattle.kc_tally.specs.declared.row.Row.{Row};
-ghost use Rattle.kc_combine.specs.Aheads.{HaveLength, heads_of, least_from, lengths_of};
+ghost use Rattle.kc_combine.specs.Aheads.{HaveLength, heads_of, least_from, whences_of};
 ghost use Rattle.kc_combine.specs.Walks.{GoesOn, IsWalking, StopsAt, left_from};
 
 use crate::ahead::Ahead;
@@ -11,7 +11,7 @@ use crate::combines::Combines;
 use crate::gives_rows::GivesRows;
 use kc_tally::Row;
 
-/// Why no row of several tables together can be given.
+/// Why several tables together can give no row.
 pub enum WalkFault<F> {
     /// A table has this fault.
     Table(F),
@@ -19,12 +19,12 @@ pub enum WalkFault<F> {
     TooLarge,
 }
 
-/// The next row of what the rule makes of the tables, or none where no word is left. `counts` has room for a count of
-/// each table.
+/// The next row of the combination of the tables, or none if no word is left. `counts` has room for a count of each
+/// table.
 ///
 /// # Errors
-/// `Table` where a table has a fault, which is that of the first table that has one behind the word; `TooLarge` where
-/// the rule's count of the next word is above 2^62.
+/// `Table` if a table has a fault, that of the first table that has one after the word; `TooLarge` if the rule's count
+/// of the next word is above 2^62.
 pub fn next_row<R: GivesRows + Drop, C: Combines>(
     aheads: &mut [Ahead<R>],
     combines: &C,
@@ -37,12 +37,12 @@ pub fn next_row<R: GivesRows + Drop, C: Combines>(
     ensures stops { (bound : ℕ) (tables : List (List Row)) (rows : List Row)
         → IsWalking R.gave R.gave_all (C.rule combines.now) bound tables aheads.old rows
         → IfErr result (StopsAt R.gave R.gave_all R.fails (C.rule combines.now) aheads.new rows) }
-    ensures word { (k : ℕ) → HaveLength R.k k aheads.old
+    ensures word { (k : ℕ) → HaveLength R.whence k aheads.old
         → IfOk result (λ next. IfSome next (λ row. row.word < 4 ^ k)) }
     ensures count { IfOk result (λ next. IfSome next (λ row. (1 ≤ row.count) × (row.count ≤ 2 ^ 62))) }
     ensures fewer { IfOk result (λ next. IfSome next (λ row. left_from (least_from None (heads_of aheads.new))
         < left_from (least_from None (heads_of aheads.old)))) }
-    ensures same { lengths_of R.k aheads.new ≡ lengths_of R.k aheads.old }
+    ensures same { whences_of R.whence aheads.new ≡ whences_of R.whence aheads.old }
     ensures long { length aheads.new ≡ length aheads.old }
     ensures alike { length counts.new ≡ length counts.old }
 {

@@ -64,7 +64,7 @@ refused_before (one ∷ front) rest name e = pick one.is_bad e (refused_before f
   pick true e later = e
   pick false e later = later e
 
--- where none of them is refused, what is refused first of the others is refused first of all
+-- if none of them is refused, what is refused first of the others is refused first of all
 passed_before : (front rest : List Judged) → first_of_bad front ≡ None
     → first_of_bad (front ++ rest) ≡ first_of_bad rest
 passed_before [] rest e = refl
@@ -101,7 +101,7 @@ pub refused_in_counting : (rows : List Row) (name : OptionName) → first_bad_of
 refused_in_counting rows name e =
     refused_before (of_counting rows) (judged option.Print (print_of rows) ∷ of_dump rows ++ of_high rows) name e
 
--- what is refused of a count behind its counting
+-- what is refused of a count after its counting
 pub behind_counting : (rows : List Row) → first_bad_of_counting rows ≡ None
     → first_bad rows ≡ first_of_bad (judged option.Print (print_of rows) ∷ of_dump rows ++ of_high rows)
 behind_counting rows e =
@@ -123,7 +123,7 @@ pub refused_in_dump : (rows : List Row) (print : Print) (name : OptionName) → 
     → first_bad_of_dump rows ≡ Some name → first_bad rows ≡ Some name
 refused_in_dump rows print name is e = behind_print is ∙ refused_before (of_dump rows) (of_high rows) name e
 
--- and where nothing of it is, what is refused of a histogram
+-- and if nothing of it is, what is refused of a histogram
 pub behind_dump : (rows : List Row) (print : Print) → IsPrinted rows print → first_bad_of_dump rows ≡ None
     → first_bad rows ≡ first_bad_of_histo rows
 behind_dump rows print is e = behind_print is ∙ passed_before (of_dump rows) (of_high rows) e

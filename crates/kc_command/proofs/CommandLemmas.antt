@@ -22,8 +22,9 @@ use Rattle.clap.specs.Kinds.{Kinds, check_kinds, or_else}
 use Rattle.clap.specs.Faults.{check_fault, defaults_fault, entered_fault, fault_of, other_fault, settle_fault}
 use Rattle.clap.specs.Faults.{turn_fault, walk_fault}
 use Rattle.std.specs.List.{AllByRecursion}
-use Rattle.kc_command.specs.Command.{IsCommand, count_shape, dump_shape, histo_shape, kcount_app, merge_shape}
-use Rattle.kc_command.specs.Command.{profile_shape, query_shape, select_shape, stats_shape}
+use Rattle.kc_command.specs.Command.{IsCommand, count_shape, dump_shape, filter_shape, histo_shape, intersect_shape}
+use Rattle.kc_command.specs.Command.{kcount_app, merge_shape, profile_shape, query_shape, select_shape, stats_shape}
+use Rattle.kc_command.specs.Command.{subtract_shape}
 
 -- a command with one argument more
 pub added : {old new : Command} {argument : Arg} {app : App} {rule : Rule} → AddsArg old argument new
@@ -59,7 +60,7 @@ pub joined : {old sub new : Command} {app : App} {shape : Shape} → AddsSubcomm
 joined adds local is before =
     adds.shape (plain_is_local _ _ _ _ (ap (λ (s : Shape). s.is_plain) is ∙ local)) ∙ ap₂ with_subcommand before is
 
--- a command with one command more, where there was memory for both
+-- a command with one command more, if there was memory for both
 pub with_one : (command more both : Result Command AllocError) (app : App) (shape : Shape) → IfOk command (λ c. app_of c ≡ app)
     → IfOk more (λ c. shape_of c ≡ shape) → shape.is_plain ≡ true
     → IfOk both (λ c. IsOkAnd command (λ one. IsOkAnd more (λ sub. AddsSubcommand one sub c)))
@@ -69,7 +70,7 @@ with_one (Err error) more (Ok both) app shape before is local adds = absurd adds
 with_one (Ok command) (Err error) (Ok both) app shape before is local adds = absurd adds
 with_one (Ok command) (Ok more) (Ok both) app shape before is local adds = joined adds local is before
 
--- where no command was met, or another one than `help`
+-- if no command was met, or another one than `help`
 abbrev NotHelp : Option (Text × List Text) → Type 0
 NotHelp stop = IfSome stop (λ met. bytes_eq met.0 (codes "help") ≡ false)
 
@@ -177,7 +178,7 @@ swapped a b e = pick (bytes_eq b a) refl where
   pick false same = refl
   pick true same = sym ((bytes_eq-Decides a b).1 (sym ((bytes_eq-Decides b a).0 same))) ∙ e
 
--- where the test fails of the last one and something is found, it is found before
+-- if the test fails of the last one and something is found, it is found before
 found_before : {X : Type 0} (P : X → Type 0) (test : X → Bool) (xs : List X) (last : X) → AllByRecursion P xs
     → test last ≡ false
     → is_some (find test (xs ++ last ∷ [])) ≡ true → (x : X) × P x × (find test (xs ++ last ∷ []) ≡ Some x)
@@ -214,6 +215,9 @@ commands =
     ∷ of_kcount stats_shape
     ∷ of_kcount query_shape
     ∷ of_kcount merge_shape
+    ∷ of_kcount intersect_shape
+    ∷ of_kcount subtract_shape
+    ∷ of_kcount filter_shape
     ∷ of_kcount select_shape
     ∷ of_kcount profile_shape
     ∷ []
@@ -236,7 +240,16 @@ are_commands = (
             inr (inr (inr (inr (inr (inl refl))))),
             (
               inr (inr (inr (inr (inr (inr (inl refl)))))),
-              (inr (inr (inr (inr (inr (inr (inr refl)))))), tt),
+              (
+                inr (inr (inr (inr (inr (inr (inr (inl refl))))))),
+                (
+                  inr (inr (inr (inr (inr (inr (inr (inr (inl refl)))))))),
+                  (
+                    inr (inr (inr (inr (inr (inr (inr (inr (inr (inl refl))))))))),
+                    (inr (inr (inr (inr (inr (inr (inr (inr (inr (inr refl))))))))), tt),
+                  ),
+                ),
+              ),
             ),
           ),
         ),

@@ -56,7 +56,7 @@ letter (t ∷ ts) n b rest bad r =
 pub passes : (least most n : ℕ) → most < n → between least most (Some n) ≡ None
 passes least most n above = rw (nat_le-false n most above) (never (nat_le least n) n)
 
--- Where a number is none, or passes 64 bits, no bound lets it through.
+-- If a number is none, or passes 64 bits, no bound lets it through.
 pub too_great : (text : List ℕ) (n b : ℕ) (rest : List ℕ) → 2 ^ 64 ≤ n * 10 + digit b → Reads text n (b ∷ rest)
     → between 0 (2 ^ 64 - 1) (number_of text) ≡ None
 too_great text n b rest above r =
@@ -68,7 +68,7 @@ too_great text n b rest above r =
       pick true none = none
       pick false none = refl
 
--- A number that stands between the bounds.
+-- A number between the bounds.
 pub fits : (least most n : ℕ) → least ≤ n → n ≤ most → between least most (Some n) ≡ Some n
 fits least most n low high =
     ap (λ v. if v && nat_le n most then Some n else None) (nat_le-true least n low)
@@ -94,7 +94,7 @@ between_twice least most (Some n) small = pick (cases_lt n (2 ^ 64)) where
       ap (between least most) (passes 0 (2 ^ 64 - 1) n (omega (arith, above)))
       ∙ sym (passes least most n (omega (arith, above, small)))
 
--- A number that stands between bounds is that number.
+-- A number that is between bounds is that number.
 pub stands : (least most n : ℕ) (number : Option ℕ) → Some n ≡ between least most number → number ≡ Some n
 stands least most n None e = cc
 stands least most n (Some m) e = pick (nat_le least m && nat_le m most) e where
@@ -105,7 +105,7 @@ stands least most n (Some m) e = pick (nat_le least m && nat_le m most) e where
 not_below : {n : ℕ} → (n < 2 ^ 64 → ⊥) → 2 ^ 64 - 1 < n
 not_below {n} h = elim (cases_lt n (2 ^ 64)) [ inl below ↦ absurd (h below) | inr above ↦ omega (arith, above) ]
 
--- A number with a unit behind it.
+-- A number with a unit after it.
 pub times_unit : (text : List ℕ) (n u : ℕ) (r : Option ℕ) → 1 ≤ length text
     → Some n ≡ between 0 (2 ^ 64 - 1) (number_of (without_last text))
     → Some u ≡ unit (get_or text (length text - 1) 0) → SomeIff r (n * u < 2 ^ 64) (n * u)
@@ -123,7 +123,7 @@ times_unit text n u r some number suffix product = pick r product ∙ sym (ap (b
   pick None above = sym (passes 0 (2 ^ 64 - 1) (n * u) (not_below above))
   pick (Some m) is = ap Some is.1 ∙ sym (fits 0 (2 ^ 64 - 1) (n * u) (omega arith) (omega (arith, is.0)))
 
--- A digit that was read stands for its value.
+-- A digit that was read has its value.
 pub digit_is : (byte n : ℕ) → Some n ≡ (if is_ascii_digit byte then Some (byte - 48) else None) → n ≡ digit byte
 digit_is byte n e = pick (is_ascii_digit byte) e where
   pick : (b : Bool) → Some n ≡ (if b then Some (byte - 48) else None) → n ≡ digit byte

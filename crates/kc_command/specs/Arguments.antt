@@ -1,11 +1,16 @@
--- What the options of a command ask for: source, the table of options in the README. A row is what `clap` found for an
--- option: its values and where they came from.
-use Rattle.std.specs.Prelude.{◌≡◌, ℕ, ◌^◌, ◌==◌, Bool, true, false, nat_le, ◌&&◌, List, [], ◌∷◌, codes, if◌then◌else◌}
+-- The values that the options of a command ask for: source, the table of options in the README. A row is what `clap`
+-- found for an option: its values and where they came from.
+use Rattle.std.specs.Prelude.{◌≡◌, ℕ, ◌^◌, ◌==◌, Bool, true, false, nat_le, nat_lt, ◌&&◌, List, [], ◌∷◌, codes}
+use Rattle.std.specs.Prelude.{if◌then◌else◌}
 use Rattle.std.specs.Prelude.{Option, Some, None, is_none, is_some, option_map, unwrap_or, length, Result, Ok, Err}
 use Rattle.std.specs.List.{list_any}
 use Rattle.std.specs.Option.{option_and_then, option_map_or}
 use Rattle.std.specs.Str.{bytes_eq}
 use Rattle.clap.specs.Words.{Row, Text, all_of, first_of, one_of}
+use Rattle.kc_combine.specs.declared.combining.Combining.{Combining}
+use Rattle.kc_combine.specs.declared.combining.Combining.TheVariants as combining
+use Rattle.kc_combine.specs.declared.combining_rules.Take.{Take}
+use Rattle.kc_combine.specs.declared.combining_rules.Take.TheVariants as takes
 use Rattle.kc_report.specs.declared.dump.Dump.{Dump}
 use Rattle.kc_select.specs.Solid.{SelectionRule, profile_rule}
 use Rattle.kc_select.specs.declared.pair_rule.PairRule.{PairRule}
@@ -19,50 +24,50 @@ use Rattle.kc_command.specs.declared.pair_options.PairsRefusal.TheVariants as re
 use Rattle.kc_command.specs.declared.settings.Print.{Print}
 use Rattle.kc_command.specs.declared.settings.Print.TheVariants as report
 
--- What an option asks for: what its text says, where that is allowed; and where it is not given, its default.
+-- The value of an option: that of its text, if it is allowed; the default, if the option is not given.
 
 abbrev pub or_default : {X : Type 0} → X → (Text → Option X) → Option Text → Option X
 or_default default value None = Some default
 or_default default value (Some text) = value text
 
--- `--mer-len`, the length of the words, 1 to 31; it has to be given
+-- `--mer-len`, the length of the words, 1 to 31; required
 abbrev pub mer_len_of : List Row → Option ℕ
 mer_len_of rows = option_and_then (number_between 1 31) (first_of (codes "mer-len") rows)
 
--- `--size`, the slots that the hash tables begin with, 1 to 2^40, with a suffix or without one; 1000000
+-- `--size`, the number of slots with which the hash tables begin, 1 to 2^40, with or without a suffix; default 1000000
 abbrev pub size_of : List Row → Option ℕ
 size_of rows = or_default 1000000 (scaled_between 1 (2 ^ 40)) (first_of (codes "size") rows)
 
--- `--threads`, 1 to 64; 1
+-- `--threads`, 1 to 64; default 1
 abbrev pub threads_of : List Row → Option ℕ
 threads_of rows = or_default 1 (number_between 1 64) (first_of (codes "threads") rows)
 
--- the one byte of a text, where it is 33 to 126
+-- the byte of a text of one byte, if it is 33 to 126
 abbrev pub quality_byte : Text → Option ℕ
 quality_byte (byte ∷ []) = if nat_le 33 byte && nat_le byte 126 then Some byte else None
 quality_byte _ = None
 
--- `--min-qual-char`, the floor of qualities; `!`, which every quality passes
+-- `--min-qual-char`, the floor of qualities; default `!`, which every quality passes
 abbrev pub floor_of : List Row → Option ℕ
 floor_of rows = or_default 33 quality_byte (first_of (codes "min-qual-char") rows)
 
--- the powers of two up to 64
+-- whether the number is a power of two, from 1 to 64
 abbrev pub is_stripe_count : ℕ → Bool
 is_stripe_count number = list_any (λ power. number == power) (1 ∷ 2 ∷ 4 ∷ 8 ∷ 16 ∷ 32 ∷ 64 ∷ [])
 
--- the number, where it is one of them
+-- the number, if it is one of them
 abbrev pub as_stripes : ℕ → Option ℕ
 as_stripes number = if is_stripe_count number then Some number else None
 
--- `--min-count`, the least count of a word that is solid, 0 to 2^62; 2
+-- `--min-count`, the least count of a solid word, 0 to 2^62; default 2
 abbrev pub min_count_of : List Row → Option ℕ
 min_count_of rows = or_default 2 (number_between 0 (2 ^ 62)) (first_of (codes "min-count") rows)
 
--- `--max-count`, the greatest count of a word that is solid, 0 to 2^62; 2^62
+-- `--max-count`, the greatest count of a solid word, 0 to 2^62; default 2^62
 abbrev pub max_count_of : List Row → Option ℕ
 max_count_of rows = or_default (2 ^ 62) (number_between 0 (2 ^ 62)) (first_of (codes "max-count") rows)
 
--- `--min-share`, how many of a hundred words of a read have to be solid, 0 to 100; 100
+-- `--min-share`, the percentage of a read's words that have to be solid, 0 to 100; default 100
 abbrev pub min_share_of : List Row → Option ℕ
 min_share_of rows = or_default 100 (number_between 0 100) (first_of (codes "min-share") rows)
 
@@ -72,24 +77,37 @@ pair_rule_named text = if bytes_eq text (codes "both") then Some asks.All
     else if bytes_eq text (codes "any") then Some asks.Any
     else None
 
--- `--keep`, how many reads of a pair have to be solid; both
+-- `--keep`, how many reads of a pair have to be solid; default both
 abbrev pub keep_of : List Row → Option PairRule
 keep_of rows = or_default asks.All pair_rule_named (first_of (codes "keep") rows)
 
--- `--pairs` is given: the value of a flag is `true` then, and else `false`
+-- the count that an intersection gives a word, by its name: the least, the greatest or the sum of the word's counts, or
+-- that in the first table
+abbrev pub take_named : Text → Option Take
+take_named text = if bytes_eq text (codes "min") then Some takes.Least
+    else if bytes_eq text (codes "max") then Some takes.Greatest
+    else if bytes_eq text (codes "sum") then Some takes.Sum
+    else if bytes_eq text (codes "first") then Some takes.First
+    else None
+
+-- `--take`, the count that an intersection gives a word; default the least
+abbrev pub take_of : List Row → Option Take
+take_of rows = or_default takes.Least take_named (first_of (codes "take") rows)
+
+-- whether `--pairs` is given: the value of a flag is `true` if it is, and `false` if not
 abbrev pub has_pairs : List Row → Bool
 has_pairs rows = option_map_or (λ text. bytes_eq text (codes "true")) (first_of (codes "pairs") rows) false
 
--- `--stripes`, before it is lowered to the number of words; 16
+-- `--stripes`, before it is lowered to the number of words; default 16
 abbrev pub stripes_of : List Row → Option ℕ
 stripes_of rows =
     or_default 16 (λ text. option_and_then as_stripes (number_between 1 64 text)) (first_of (codes "stripes") rows)
 
--- `--batch`, the positions of a batch, 1 to 2^36; 65536
+-- `--batch`, the positions of a batch, 1 to 2^36; default 65536
 abbrev pub batch_of : List Row → Option ℕ
 batch_of rows = or_default 65536 (number_between 1 (2 ^ 36)) (first_of (codes "batch") rows)
 
--- the report of this name
+-- the report with this name
 abbrev pub report_named : Text → Option Print
 report_named text = if bytes_eq text (codes "table") then Some report.Table
     else if bytes_eq text (codes "dump") then Some report.Dump
@@ -97,40 +115,50 @@ report_named text = if bytes_eq text (codes "table") then Some report.Table
     else if bytes_eq text (codes "stats") then Some report.Stats
     else None
 
--- `--print`, the report that is written; the table
+-- `--print`, the report that is written; default the table
 abbrev pub print_of : List Row → Option Print
 print_of rows = or_default report.Table report_named (first_of (codes "print") rows)
 
--- `--lower-count`, the least count that a dump shows, 0 to 2^62; 0
+-- `--lower-count`, the least count of a word that is not left out, 0 to 2^62; default 0
 abbrev pub lower_of : List Row → Option ℕ
 lower_of rows = or_default 0 (number_between 0 (2 ^ 62)) (first_of (codes "lower-count") rows)
 
--- `--upper-count`, the greatest count that a dump shows, 0 to 2^62; 2^62
+-- `--upper-count`, the greatest count of a word that is not left out, 0 to 2^62; default 2^62
 abbrev pub upper_of : List Row → Option ℕ
 upper_of rows = or_default (2 ^ 62) (number_between 0 (2 ^ 62)) (first_of (codes "upper-count") rows)
 
--- `--high`, the greatest count that has a line of its own in a histogram, 1 to 10000000; 10000
+-- `--high`, the greatest count with a line of its own in a histogram, 1 to 10000000; default 10000
 abbrev pub high_of : List Row → Option ℕ
 high_of rows = or_default 10000 (number_between 1 10000000) (first_of (codes "high") rows)
 
--- `--only`, the name of the file whose words alone are counted, which may be any text; none where all count
+-- `--only`, the name of a file, which may be any text: only words of that file are counted; if it is not given, all
+-- words are
 abbrev pub only_of : List Row → Option Text
 only_of rows = first_of (codes "only") rows
 
--- FIRST and SECOND, the names of the tables of a merge, which may be any texts
+-- FIRST and SECOND, the names of the tables of `merge`, `intersect` and `subtract`, which may be any text
 
 abbrev pub first_table_of : List Row → Option Text
 first_table_of rows = first_of (codes "first") rows
 
-abbrev pub second_table_of : List Row → Option Text
-second_table_of rows = first_of (codes "second") rows
+-- the tables after the first one, in their order
+abbrev pub other_tables_of : List Row → List Text
+other_tables_of rows = unwrap_or (all_of (codes "second") rows) []
 
--- the value is the one that is asked for; or where it is outside its limits, its option is refused
+-- all tables, the first one before the others; `clap` requires it, and where it found none its name is empty
+abbrev pub tables_of : List Row → List Text
+tables_of rows = unwrap_or (first_table_of rows) [] ∷ other_tables_of rows
+
+-- there are more than 64 tables: the first one, and more than 63 others
+abbrev pub has_too_many_tables : List Row → Bool
+has_too_many_tables rows = nat_lt 63 (length (other_tables_of rows))
+
+-- the value is the one that was asked for; or it is outside its limits, and its option is refused
 abbrev pub IsValueOf : {X : Type 0} → OptionName → Option X → Result X OptionName → Type 0
 IsValueOf name asked (Ok value) = asked ≡ Some value
 IsValueOf name asked (Err refused) = (asked ≡ None) × (refused ≡ name)
 
--- Which value is refused: the first that is outside its limits, in the order of the help, whether it acts or not.
+-- Which value is refused: the first one outside its limits, in the order of the help, even if the option has no effect.
 
 -- an option, and whether its value is outside its limits
 pub record Judged : Type 0 where
@@ -158,7 +186,7 @@ first_bad rows = first_of_bad (judged option.MerLen (mer_len_of rows)
     ∷ judged option.High (high_of rows)
     ∷ [])
 
--- of `count`, but for those that tell of its report
+-- of `count`, without the options of the report
 abbrev pub first_bad_of_counting : List Row → Option OptionName
 first_bad_of_counting rows = first_of_bad (judged option.MerLen (mer_len_of rows)
     ∷ judged option.Size (size_of rows)
@@ -168,10 +196,14 @@ first_bad_of_counting rows = first_of_bad (judged option.MerLen (mer_len_of rows
     ∷ judged option.Batch (batch_of rows)
     ∷ [])
 
--- of `dump`
+-- of `dump` and of `filter`
 abbrev pub first_bad_of_dump : List Row → Option OptionName
 first_bad_of_dump rows =
     first_of_bad (judged option.LowerCount (lower_of rows) ∷ judged option.UpperCount (upper_of rows) ∷ [])
+
+-- of `intersect`
+abbrev pub first_bad_of_intersect : List Row → Option OptionName
+first_bad_of_intersect rows = first_of_bad (judged option.Take (take_of rows) ∷ [])
 
 -- of `histo`
 abbrev pub first_bad_of_histo : List Row → Option OptionName
@@ -192,13 +224,13 @@ first_bad_of_profile rows = first_of_bad (judged option.MinQualChar (floor_of ro
 
 -- What all options together ask for.
 
--- a flag is up where it was given, and down where it was not
+-- a flag is true if it was given, and false if not
 pub record IsFlag (rows : List Row) (id : Text) (flag : Bool) : Type 0 where
   pub given : one_of id rows ≡ Some (codes "true") → flag ≡ true
   pub unset : one_of id rows ≡ Some (codes "false") → flag ≡ false
   pub absent : one_of id rows ≡ None → flag ≡ false
 
--- the options of a dump ask for this dump
+-- the options of a dump ask for this one
 pub record AsksForDump (rows : List Row) (dump : Dump) : Type 0 where
   pub column : IsFlag rows (codes "column") dump.column
   pub tab : IsFlag rows (codes "tab") dump.tab
@@ -214,7 +246,7 @@ pub record AsksForSelection (rows : List Row) (rule : SelectionRule) : Type 0 wh
   pub invert : IsFlag rows (codes "invert") rule.inverted
   pub profiled : rule.profiled ≡ false
 
--- the options of a selection ask for pairs of which so many reads have to be solid, or for no pairs
+-- the options of a selection ask for pairs, with this rule for the number of solid reads, or for no pairs
 abbrev pub AsksForPairs : List Row → Option PairRule → Type 0
 AsksForPairs rows None = has_pairs rows ≡ false
 AsksForPairs rows (Some asked) = (has_pairs rows ≡ true) × (keep_of rows ≡ Some asked)
@@ -223,6 +255,22 @@ AsksForPairs rows (Some asked) = (has_pairs rows ≡ true) × (keep_of rows ≡ 
 pub record AsksForProfile (rows : List Row) (rule : SelectionRule) : Type 0 where
   pub min_qual_char : floor_of rows ≡ Some rule.floor
   pub profile : rule ≡ profile_rule rule.floor
+
+-- the options of an intersection ask for this combination
+abbrev pub AsksForIntersection : List Row → Combining → Type 0
+AsksForIntersection rows (combining.Intersect rule) = take_of rows ≡ Some rule.take
+AsksForIntersection rows _ = ⊥
+
+-- the options of a filter ask for this combination
+abbrev pub AsksForFilter : List Row → Combining → Type 0
+AsksForFilter rows (combining.Filter rule) = (lower_of rows ≡ Some rule.least) × (upper_of rows ≡ Some rule.most)
+AsksForFilter rows _ = ⊥
+
+-- the options of a subtraction ask for this combination: of counts with `--counts`, and of words without it
+abbrev pub AsksForSubtraction : List Row → Combining → Type 0
+AsksForSubtraction rows combining.Subtract = IsFlag rows (codes "counts") false
+AsksForSubtraction rows combining.SubtractCounts = IsFlag rows (codes "counts") true
+AsksForSubtraction rows _ = ⊥
 
 -- the options of a count ask for these settings
 pub record AsksFor (rows : List Row) (settings : Settings) : Type 0 where
@@ -237,7 +285,7 @@ pub record AsksFor (rows : List Row) (settings : Settings) : Type 0 where
   pub dump : AsksForDump rows settings.dump
   pub high : high_of rows ≡ Some settings.high
 
--- those of them that don't tell of its report do
+-- the options of a count that do not belong to the report ask for these settings
 pub record AsksForCounting (rows : List Row) (settings : Settings) : Type 0 where
   pub mer_len : mer_len_of rows ≡ Some settings.k
   pub size : size_of rows ≡ Some settings.size
@@ -247,24 +295,23 @@ pub record AsksForCounting (rows : List Row) (settings : Settings) : Type 0 wher
   pub stripes : option_map (lowered settings.k) (stripes_of rows) ≡ Some settings.stripes
   pub batch : batch_of rows ≡ Some settings.batch
 
--- Which options of a selection don't go together.
+-- Which options of a selection conflict.
 
 -- an option has a value
 abbrev pub is_given : Text → List Row → Bool
 is_given id rows = is_some (first_of id rows)
 
--- two files are named behind the table
+-- two files are named after the table
 abbrev pub has_two_files : List Row → Bool
 has_two_files rows = length (unwrap_or (all_of (codes "file") rows) []) == 2
 
--- without `--pairs` there is no `--keep` and no `--output2`
+-- without `--pairs`, `--keep` and `--output2` are errors
 abbrev pub refusal_of_reads : List Row → Option PairsRefusal
 refusal_of_reads rows = if is_given (codes "keep") rows then Some refusal.KeepAlone
     else if is_given (codes "output2") rows then Some refusal.Output2Alone
     else None
 
--- the first of two outputs is not given without the second one, nor the second one without the first, and they have
--- different names
+-- one of the two outputs is not given without the other, and their names differ
 abbrev pub refusal_of_outputs : Option Text → Option Text → Option PairsRefusal
 refusal_of_outputs (Some first) None = Some refusal.NoOutput2
 refusal_of_outputs None (Some second) = Some refusal.NoOutput
@@ -272,12 +319,12 @@ refusal_of_outputs None None = None
 refusal_of_outputs (Some first) (Some second) =
     if bytes_eq first second then Some refusal.OneOutput else None
 
--- with `--pairs` two files are named, and both outputs or none
+-- with `--pairs`, two files are named, and both outputs or neither
 abbrev pub refusal_of_pairs : List Row → Option PairsRefusal
 refusal_of_pairs rows = if has_two_files rows
     then refusal_of_outputs (first_of (codes "output") rows) (first_of (codes "output2") rows)
     else Some refusal.NotTwoFiles
 
--- why the options of a selection don't go together, where they don't
+-- why the options of a selection conflict, if they do
 abbrev pub pairs_refusal : List Row → Option PairsRefusal
 pairs_refusal rows = if has_pairs rows then refusal_of_pairs rows else refusal_of_reads rows

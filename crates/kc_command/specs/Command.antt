@@ -1,5 +1,5 @@
--- The command line of kcount: the names of its commands, and of each option and argument its name, its short and its
--- long form, whether it takes a value, and whether it has to be given: source, the table of options in the README. The
+-- The command line of kcount: the names of its commands, and the name, the short form and the long form of each option
+-- and argument, whether it takes a value, and whether it is required: source, the table of options in the README. The
 -- records are those of `clap`.
 use Rattle.std.specs.Prelude.{◌≡◌, ◌⊎◌, ℕ, [], ◌∷◌, Some, true, false, codes}
 use Rattle.clap.specs.Simple.{new_shape}
@@ -14,19 +14,19 @@ value_option name = record (new_rule name) { long = Some name; value_names = 1 }
 abbrev pub flag_option : Text → Rule
 flag_option name = record (new_rule name) { long = Some name; action = Some SetTrue }
 
--- an option that has a short name too, which is one letter
+-- an option that also has a short name, of one letter
 abbrev pub with_short : ℕ → Rule → Rule
 with_short letter option = record option { short = Some letter }
 
--- an argument that is given once or not at all
+-- an argument that is given at most once
 abbrev pub one_argument : Text → Rule
 one_argument name = record (new_rule name) { value_names = 1 }
 
--- an argument that is given any number of times
+-- an argument that may be given any number of times
 abbrev pub several_arguments : Text → Rule
 several_arguments name = record (new_rule name) { action = Some Append; value_names = 1 }
 
--- an argument that has to be given
+-- a required argument
 abbrev pub required : Rule → Rule
 required argument = record argument { required = true }
 
@@ -86,7 +86,7 @@ upper_count_option = value_option (codes "upper-count")
 abbrev pub high_option : Rule
 high_option = value_option (codes "high")
 
--- `--only`, the file whose words alone are counted
+-- `--only`, the file with the only words that are counted
 abbrev pub only_option : Rule
 only_option = value_option (codes "only")
 
@@ -114,6 +114,14 @@ pairs_option = flag_option (codes "pairs")
 abbrev pub keep_option : Rule
 keep_option = value_option (codes "keep")
 
+-- `--take`, the count of a word in an intersection
+abbrev pub take_option : Rule
+take_option = value_option (codes "take")
+
+-- `--counts`, to subtract counts and not words
+abbrev pub counts_option : Rule
+counts_option = flag_option (codes "counts")
+
 -- `--output2`, the file of the second reads of pairs
 abbrev pub output2_option : Rule
 output2_option = value_option (codes "output2")
@@ -126,31 +134,31 @@ stats_option = flag_option (codes "stats")
 abbrev pub explain_option : Rule
 explain_option = flag_option (codes "explain")
 
--- FILE, any number of them
+-- FILE, any number of times
 abbrev pub files_argument : Rule
 files_argument = several_arguments (codes "file")
 
--- FILE, one or none
+-- FILE, at most once
 abbrev pub file_argument : Rule
 file_argument = one_argument (codes "file")
 
--- TABLE, a file that has to be given
+-- TABLE, a required file
 abbrev pub table_argument : Rule
 table_argument = required file_argument
 
--- TABLE of a selection or of a profile, a file that has to be given
+-- TABLE of a selection or of a profile, a required file
 abbrev pub counted_argument : Rule
 counted_argument = required (one_argument (codes "table"))
 
--- FIRST, a file that has to be given
+-- FIRST, a required file
 abbrev pub first_argument : Rule
 first_argument = required (one_argument (codes "first"))
 
--- SECOND, a file that has to be given
+-- SECOND, a required file, and any number of files more
 abbrev pub second_argument : Rule
-second_argument = required (one_argument (codes "second"))
+second_argument = required (several_arguments (codes "second"))
 
--- WORD, at least one
+-- WORD, at least once
 abbrev pub words_argument : Rule
 words_argument = required (several_arguments (codes "word"))
 
@@ -177,7 +185,7 @@ count_shape = record (new_shape (codes "count")) {
       ∷ [];
 }
 
--- `kcount dump`, where `-c`, `-t`, `-L` and `-U` are short forms of the options that a count has without them
+-- `kcount dump`, which has short forms, `-c`, `-t`, `-L` and `-U`, for options that have none in `count`
 abbrev pub dump_shape : Shape
 dump_shape = record (new_shape (codes "dump")) {
   rules = with_short 99 column_option
@@ -206,10 +214,33 @@ query_shape = record (new_shape (codes "query")) {
   rules = output_option ∷ explain_option ∷ table_argument ∷ words_argument ∷ [];
 }
 
--- `kcount merge`, which takes exactly two files
+-- `kcount merge`, which takes two files or more
 abbrev pub merge_shape : Shape
 merge_shape = record (new_shape (codes "merge")) {
   rules = output_option ∷ explain_option ∷ first_argument ∷ second_argument ∷ [];
+}
+
+-- `kcount intersect`, which takes two files or more
+abbrev pub intersect_shape : Shape
+intersect_shape = record (new_shape (codes "intersect")) {
+  rules = take_option ∷ output_option ∷ explain_option ∷ first_argument ∷ second_argument ∷ [];
+}
+
+-- `kcount subtract`, which takes two files or more
+abbrev pub subtract_shape : Shape
+subtract_shape = record (new_shape (codes "subtract")) {
+  rules = counts_option ∷ output_option ∷ explain_option ∷ first_argument ∷ second_argument ∷ [];
+}
+
+-- `kcount filter`, which has the bounds of `dump`, with the same short forms
+abbrev pub filter_shape : Shape
+filter_shape = record (new_shape (codes "filter")) {
+  rules = with_short 76 lower_count_option
+      ∷ with_short 85 upper_count_option
+      ∷ output_option
+      ∷ explain_option
+      ∷ file_argument
+      ∷ [];
 }
 
 -- `kcount select`, which takes a table and any number of files
@@ -237,14 +268,14 @@ profile_shape = record (new_shape (codes "profile")) {
   rules = min_qual_char_option ∷ output_option ∷ explain_option ∷ counted_argument ∷ files_argument ∷ [];
 }
 
--- `kcount` before it has commands
+-- `kcount` without its commands
 abbrev pub bare_app : App
 bare_app = record {
   top = record (new_shape (codes "kcount")) { has_version = true; subcommand_required = true };
   subs = [];
 }
 
--- `kcount`, which has a version and wants a command
+-- `kcount`, which has a version and requires a command
 abbrev pub kcount_app : App
 kcount_app = record {
   top = record (new_shape (codes "kcount")) { has_version = true; subcommand_required = true; is_leaf = false };
@@ -254,6 +285,9 @@ kcount_app = record {
       ∷ stats_shape
       ∷ query_shape
       ∷ merge_shape
+      ∷ intersect_shape
+      ∷ subtract_shape
+      ∷ filter_shape
       ∷ select_shape
       ∷ profile_shape
       ∷ [];
@@ -267,5 +301,8 @@ IsCommand name = (name ≡ codes "count")
     ⊎ (name ≡ codes "stats")
     ⊎ (name ≡ codes "query")
     ⊎ (name ≡ codes "merge")
+    ⊎ (name ≡ codes "intersect")
+    ⊎ (name ≡ codes "subtract")
+    ⊎ (name ≡ codes "filter")
     ⊎ (name ≡ codes "select")
     ⊎ (name ≡ codes "profile")

@@ -1,5 +1,6 @@
 -- Worked rows of the command line, computed from the definitions.
-use Rattle.std.specs.Prelude.{◌≡◌, ◌^◌, true, false, List, [], ◌∷◌, Option, Some, None, codes, option_map, unwrap_or}
+use Rattle.std.specs.Prelude.{◌≡◌, ℕ, ◌^◌, true, false, List, [], ◌∷◌, Option, Some, None, codes, option_map, unwrap_or}
+use Rattle.std.specs.Prelude.{replicate}
 use Rattle.clap.specs.Faults.{fault_of}
 use Rattle.clap.specs.Words.{Row, Text, all_of, first_of, one_of, subcommand_of}
 use Rattle.clap.specs.declared.error.kind.ErrorKind.TheVariants.{
@@ -10,6 +11,7 @@ use Rattle.clap.specs.declared.error.kind.ErrorKind.TheVariants.{
   InvalidValue,
   MissingRequiredArgument,
   MissingSubcommand,
+  TooManyValues,
   UnknownArgument,
 }
 use Rattle.kc_command.specs.Arguments.{
@@ -17,11 +19,13 @@ use Rattle.kc_command.specs.Arguments.{
   first_bad,
   first_bad_of_dump,
   first_bad_of_histo,
+  first_bad_of_intersect,
   first_bad_of_profile,
   first_bad_of_select,
   first_table_of,
   floor_of,
   has_pairs,
+  has_too_many_tables,
   high_of,
   keep_of,
   lower_of,
@@ -32,12 +36,14 @@ use Rattle.kc_command.specs.Arguments.{
   only_of,
   pairs_refusal,
   print_of,
-  second_table_of,
   size_of,
   stripes_of,
+  tables_of,
+  take_of,
   threads_of,
   upper_of,
 }
+use Rattle.kc_combine.specs.declared.combining_rules.Take.TheVariants as takes
 use Rattle.kc_command.specs.Command.{kcount_app}
 use Rattle.kc_command.specs.Numbers.{scaled_between}
 use Rattle.kc_command.specs.Settings.{lowered}
@@ -47,23 +53,23 @@ use Rattle.kc_command.specs.declared.pair_options.PairsRefusal.TheVariants as re
 use Rattle.kc_command.specs.declared.settings.Print.TheVariants as report
 use Rattle.kc_select.specs.declared.pair_rule.PairRule.TheVariants as asks
 
--- what was found of the options of a command
+-- what `clap` found for the options of a command
 abbrev pub options_of : List Text → List Row
 options_of arguments = unwrap_or (option_map (λ met. met.1) (subcommand_of kcount_app arguments)) []
 
--- `kcount count`, with these arguments behind it
+-- `kcount count`, followed by these arguments
 abbrev pub count_with : List Text → List Text
 count_with options = codes "kcount" ∷ codes "count" ∷ options
 
--- `kcount dump`, with these arguments behind it
+-- `kcount dump`, followed by these arguments
 abbrev pub dump_with : List Text → List Text
 dump_with options = codes "kcount" ∷ codes "dump" ∷ options
 
--- `kcount query`, with these arguments behind it
+-- `kcount query`, followed by these arguments
 abbrev pub query_with : List Text → List Text
 query_with options = codes "kcount" ∷ codes "query" ∷ options
 
--- which option of `kcount count -m 3`, with one more option and its value, is refused
+-- the option of `kcount count -m 3` that is refused with one more option and its value
 abbrev pub refused : Text → Text → Option OptionName
 refused option value = first_bad (options_of (count_with (codes "-m" ∷ codes "3" ∷ option ∷ value ∷ [])))
 
@@ -71,7 +77,7 @@ refused option value = first_bad (options_of (count_with (codes "-m" ∷ codes "
 abbrev pub both_strands : List Text
 both_strands = count_with (codes "-Cm3" ∷ codes "--print=dump" ∷ codes "--batch" ∷ codes "7" ∷ [])
 
--- counts words of length 3 on both strands, in batches of 7, and dumps them in lines; all else is as it is usual
+-- counts words of length 3 on both strands, in batches of 7, and dumps them in lines; all else is the default
 pub record CountsBothStrands : Type 0 where
   pub taken : fault_of kcount_app both_strands ≡ []
   pub good : first_bad (options_of both_strands) ≡ None
@@ -103,11 +109,11 @@ pub record CountsFiles : Type 0 where
 abbrev pub listed_words : List Text
 listed_words = count_with (codes "-m" ∷ codes "3" ∷ codes "--only" ∷ codes "x" ∷ codes "y" ∷ [])
 
--- `kcount count -m 3 --only`, with this text behind it
+-- `kcount count -m 3 --only`, followed by this text
 abbrev pub only_with : Text → List Text
 only_with name = count_with (codes "-m" ∷ codes "3" ∷ codes "--only" ∷ name ∷ [])
 
--- counts the words of one file that are in another; the name of that one may be any text, and it is given once
+-- counts the words of one file that are in another; the name of the other may be any text, and is given once
 pub record CountsListedWords : Type 0 where
   pub taken : fault_of kcount_app listed_words ≡ []
   pub good : first_bad (options_of listed_words) ≡ None
@@ -122,7 +128,7 @@ pub record CountsListedWords : Type 0 where
   pub twice : fault_of kcount_app (count_with (codes "--only=x" ∷ codes "--only=x" ∷ [])) ≡ ArgumentConflict ∷ []
   pub of_dump : fault_of kcount_app (dump_with (codes "--only" ∷ codes "x" ∷ [])) ≡ UnknownArgument ∷ []
 
--- numbers with a suffix: what they are where they are 1 to 2^40, and else none
+-- numbers with a suffix: their values if these are 1 to 2^40, otherwise None
 pub record ScalesNumbers : Type 0 where
   pub thousands : scaled_between 1 (2 ^ 40) (codes "2k") ≡ Some 2000
   pub millions : scaled_between 1 (2 ^ 40) (codes "0030M") ≡ Some 30000000
@@ -165,8 +171,8 @@ two_bad = count_with (codes "-t" ∷ codes "0" ∷ codes "-s" ∷ codes "0" ∷ 
 abbrev pub many_stripes : List Text
 many_stripes = count_with (codes "-m" ∷ codes "1" ∷ codes "--stripes" ∷ codes "64" ∷ [])
 
--- of several bad values the first in the order of the help is told; `--mer-len` has to be given; and stripes are
--- lowered to the number of words
+-- of several bad values, the first in the order of the help is reported; `--mer-len` is required; and the number of
+-- stripes is lowered to the number of words
 pub record JudgesInOrder : Type 0 where
   pub first : first_bad (options_of two_bad) ≡ Some option.Size
   pub mer_len : first_bad (options_of (count_with (codes "--batch=0" ∷ codes "-m32" ∷ []))) ≡ Some option.MerLen
@@ -194,7 +200,7 @@ pub record ReadsTables : Type 0 where
   pub words : all_of (codes "word") (options_of (query_with (codes "t.kct" ∷ codes "CGT" ∷ codes "aaa" ∷ [])))
       ≡ Some (codes "CGT" ∷ codes "aaa" ∷ [])
 
--- `kcount merge`, with these arguments behind it
+-- `kcount merge`, followed by these arguments
 abbrev pub merge_with : List Text → List Text
 merge_with options = codes "kcount" ∷ codes "merge" ∷ options
 
@@ -206,27 +212,137 @@ two_tables = merge_with (codes "a" ∷ codes "b" ∷ [])
 abbrev pub two_into_one : List Text
 two_into_one = merge_with (codes "a" ∷ codes "-o" ∷ codes "out" ∷ codes "b" ∷ [])
 
--- adds two tables, neither fewer nor more
+-- three tables
+abbrev pub three_tables : List Text
+three_tables = codes "a" ∷ codes "b" ∷ codes "c" ∷ []
+
+-- `kcount merge`, followed by so many tables
+abbrev pub merge_of : ℕ → List Text
+merge_of number = merge_with (replicate number (codes "t"))
+
+-- adds two tables or more; `clap` takes any number of them, and more than 64 are too many
 pub record MergesTables : Type 0 where
   pub taken : fault_of kcount_app two_tables ≡ []
   pub command : option_map (λ met. met.0) (subcommand_of kcount_app two_tables) ≡ Some (codes "merge")
   pub first : first_table_of (options_of two_tables) ≡ Some (codes "a")
-  pub second : second_table_of (options_of two_tables) ≡ Some (codes "b")
+  pub second : all_of (codes "second") (options_of two_tables) ≡ Some (codes "b" ∷ [])
+  pub tables : tables_of (options_of two_tables) ≡ codes "a" ∷ codes "b" ∷ []
   pub no_output : first_of (codes "output") (options_of two_tables) ≡ None
   pub output_taken : fault_of kcount_app two_into_one ≡ []
   pub output : first_of (codes "output") (options_of two_into_one) ≡ Some (codes "out")
   pub first_before : first_table_of (options_of two_into_one) ≡ Some (codes "a")
-  pub second_behind : second_table_of (options_of two_into_one) ≡ Some (codes "b")
+  pub second_behind : all_of (codes "second") (options_of two_into_one) ≡ Some (codes "b" ∷ [])
   pub long_output : first_of (codes "output") (options_of (merge_with (codes "--output=out" ∷ [])))
       ≡ Some (codes "out")
   pub no_table : fault_of kcount_app (merge_with []) ≡ MissingRequiredArgument ∷ []
   pub one_table : fault_of kcount_app (merge_with (codes "a" ∷ [])) ≡ MissingRequiredArgument ∷ []
-  pub three_tables : fault_of kcount_app (merge_with (codes "a" ∷ codes "b" ∷ codes "c" ∷ []))
-      ≡ UnknownArgument ∷ []
+  pub three_taken : fault_of kcount_app (merge_with three_tables) ≡ []
+  pub three : tables_of (options_of (merge_with three_tables)) ≡ three_tables
+  pub apart : tables_of (options_of (merge_with (codes "a" ∷ codes "b" ∷ codes "-oout" ∷ codes "c" ∷ [])))
+      ≡ three_tables
+  pub nameless : tables_of (options_of (merge_with [])) ≡ [] ∷ []
+  pub most_taken : fault_of kcount_app (merge_of 64) ≡ []
+  pub not_too_many : has_too_many_tables (options_of (merge_of 64)) ≡ false
+  pub more_taken : fault_of kcount_app (merge_of 65) ≡ []
+  pub too_many : has_too_many_tables (options_of (merge_of 65)) ≡ true
   pub other_option : fault_of kcount_app (merge_with (codes "-c" ∷ codes "a" ∷ codes "b" ∷ []))
       ≡ UnknownArgument ∷ []
 
--- `kcount select`, with these arguments behind it
+-- `kcount intersect`, followed by these arguments
+abbrev pub intersect_with : List Text → List Text
+intersect_with options = codes "kcount" ∷ codes "intersect" ∷ options
+
+-- `kcount intersect --take max a b c -o out`
+abbrev pub greatest_in_common : List Text
+greatest_in_common = intersect_with (codes "--take"
+    ∷ codes "max"
+    ∷ codes "a"
+    ∷ codes "b"
+    ∷ codes "c"
+    ∷ codes "-o"
+    ∷ codes "out"
+    ∷ [])
+
+-- `kcount intersect --take=`, with this value, over three tables
+abbrev pub taking : Text → List Text
+taking value = intersect_with (codes "--take" ∷ value ∷ three_tables)
+
+-- takes the words that two tables or more have in common, with one of their counts or the sum of them
+pub record IntersectsTables : Type 0 where
+  pub taken : fault_of kcount_app greatest_in_common ≡ []
+  pub command : option_map (λ met. met.0) (subcommand_of kcount_app greatest_in_common) ≡ Some (codes "intersect")
+  pub good : first_bad_of_intersect (options_of greatest_in_common) ≡ None
+  pub greatest : take_of (options_of greatest_in_common) ≡ Some takes.Greatest
+  pub tables : tables_of (options_of greatest_in_common) ≡ three_tables
+  pub output : first_of (codes "output") (options_of greatest_in_common) ≡ Some (codes "out")
+  pub alone : fault_of kcount_app (intersect_with three_tables) ≡ []
+  pub usual : take_of (options_of (intersect_with three_tables)) ≡ Some takes.Least
+  pub least : take_of (options_of (taking (codes "min"))) ≡ Some takes.Least
+  pub total : take_of (options_of (taking (codes "sum"))) ≡ Some takes.Sum
+  pub first : take_of (options_of (taking (codes "first"))) ≡ Some takes.First
+  pub other_name : first_bad_of_intersect (options_of (taking (codes "least"))) ≡ Some option.Take
+  pub no_name : first_bad_of_intersect (options_of (taking [])) ≡ Some option.Take
+  pub twice : fault_of kcount_app (intersect_with (codes "--take=min" ∷ codes "--take=max" ∷ three_tables))
+      ≡ ArgumentConflict ∷ []
+  pub no_table : fault_of kcount_app (intersect_with []) ≡ MissingRequiredArgument ∷ []
+  pub one_table : fault_of kcount_app (intersect_with (codes "a" ∷ [])) ≡ MissingRequiredArgument ∷ []
+  pub option_of_subtract : fault_of kcount_app (intersect_with (codes "--counts" ∷ three_tables))
+      ≡ UnknownArgument ∷ []
+
+-- `kcount subtract`, followed by these arguments
+abbrev pub subtract_with : List Text → List Text
+subtract_with options = codes "kcount" ∷ codes "subtract" ∷ options
+
+-- `kcount subtract --counts a b c`
+abbrev pub counts_left : List Text
+counts_left = subtract_with (codes "--counts" ∷ three_tables)
+
+-- takes the words or the counts of other tables from a table
+pub record SubtractsTables : Type 0 where
+  pub taken : fault_of kcount_app counts_left ≡ []
+  pub command : option_map (λ met. met.0) (subcommand_of kcount_app counts_left) ≡ Some (codes "subtract")
+  pub counts : one_of (codes "counts") (options_of counts_left) ≡ Some (codes "true")
+  pub tables : tables_of (options_of counts_left) ≡ three_tables
+  pub alone : fault_of kcount_app (subtract_with three_tables) ≡ []
+  pub usual : one_of (codes "counts") (options_of (subtract_with three_tables)) ≡ Some (codes "false")
+  pub output : first_of (codes "output") (options_of (subtract_with (codes "-o" ∷ codes "out" ∷ three_tables)))
+      ≡ Some (codes "out")
+  pub with_value : fault_of kcount_app (subtract_with (codes "--counts=yes" ∷ three_tables)) ≡ TooManyValues ∷ []
+  pub no_table : fault_of kcount_app (subtract_with []) ≡ MissingRequiredArgument ∷ []
+  pub one_table : fault_of kcount_app (subtract_with (codes "a" ∷ [])) ≡ MissingRequiredArgument ∷ []
+  pub option_of_intersect : fault_of kcount_app (subtract_with (codes "--take=min" ∷ three_tables))
+      ≡ UnknownArgument ∷ []
+
+-- `kcount filter`, followed by these arguments
+abbrev pub filter_with : List Text → List Text
+filter_with options = codes "kcount" ∷ codes "filter" ∷ options
+
+-- `kcount filter -L 2 -U5 t.kct`
+abbrev pub bounded_filter : List Text
+bounded_filter = filter_with (codes "-L" ∷ codes "2" ∷ codes "-U5" ∷ codes "t.kct" ∷ [])
+
+-- takes the words of one table, or of standard input, whose counts are within bounds
+pub record FiltersTables : Type 0 where
+  pub taken : fault_of kcount_app bounded_filter ≡ []
+  pub command : option_map (λ met. met.0) (subcommand_of kcount_app bounded_filter) ≡ Some (codes "filter")
+  pub good : first_bad_of_dump (options_of bounded_filter) ≡ None
+  pub lower : lower_of (options_of bounded_filter) ≡ Some 2
+  pub upper : upper_of (options_of bounded_filter) ≡ Some 5
+  pub file : all_of (codes "file") (options_of bounded_filter) ≡ Some (codes "t.kct" ∷ [])
+  pub alone : fault_of kcount_app (filter_with []) ≡ []
+  pub usual_lower : lower_of (options_of (filter_with [])) ≡ Some 0
+  pub usual_upper : upper_of (options_of (filter_with [])) ≡ Some (2 ^ 62)
+  pub no_file : all_of (codes "file") (options_of (filter_with [])) ≡ None
+  pub output : first_of (codes "output") (options_of (filter_with (codes "-o" ∷ codes "out" ∷ [])))
+      ≡ Some (codes "out")
+  pub first_of_two : first_bad_of_dump (options_of (filter_with (codes "-U"
+      ∷ codes "x" ∷ codes "--lower-count=x" ∷ []))) ≡ Some option.LowerCount
+  pub above : first_bad_of_dump (options_of (filter_with (codes "--upper-count=4611686018427387905" ∷ [])))
+      ≡ Some option.UpperCount
+  pub second_file : fault_of kcount_app (filter_with (codes "a" ∷ codes "b" ∷ [])) ≡ UnknownArgument ∷ []
+  pub option_of_dump : fault_of kcount_app (filter_with (codes "-c" ∷ codes "t.kct" ∷ [])) ≡ UnknownArgument ∷ []
+
+-- `kcount select`, followed by these arguments
 abbrev pub select_with : List Text → List Text
 select_with options = codes "kcount" ∷ codes "select" ∷ options
 
@@ -282,11 +398,11 @@ apart = select_with (codes "--pairs"
     ∷ codes "b"
     ∷ two_of_a_pair)
 
--- `kcount select --pairs`, with these arguments behind it
+-- `kcount select --pairs`, followed by these arguments
 abbrev pub pairs_with : List Text → List Text
 pairs_with options = select_with (codes "--pairs" ∷ options)
 
--- selects pairs of the reads of two files, by a table, and refuses options that don't go together
+-- selects pairs of reads of two files, by a table, and refuses options that conflict
 pub record SelectsPairs : Type 0 where
   pub taken : fault_of kcount_app apart ≡ []
   pub good : first_bad_of_select (options_of apart) ≡ None
@@ -318,7 +434,7 @@ pub record SelectsPairs : Type 0 where
   pub three_files : pairs_refusal (options_of (pairs_with (codes "t.kct" ∷ two_of_a_pair)))
       ≡ Some refusal.NotTwoFiles
 
--- `kcount profile`, with these arguments behind it
+-- `kcount profile`, followed by these arguments
 abbrev pub profile_with : List Text → List Text
 profile_with options = codes "kcount" ∷ codes "profile" ∷ options
 
@@ -331,7 +447,7 @@ good_bases = profile_with (codes "--min-qual-char"
     ∷ codes "b.fa"
     ∷ [])
 
--- writes the counts along the records of two files, or of standard input, by a table
+-- writes the counts along the records of two files, or of standard input, from a table
 pub record ProfilesRecords : Type 0 where
   pub taken : fault_of kcount_app good_bases ≡ []
   pub command : option_map (λ met. met.0) (subcommand_of kcount_app good_bases) ≡ Some (codes "profile")
@@ -353,7 +469,7 @@ pub record ProfilesRecords : Type 0 where
   pub two_bytes : first_bad_of_profile (options_of (profile_with (codes "--min-qual-char"
       ∷ codes "II" ∷ codes "t.kct" ∷ []))) ≡ Some option.MinQualChar
 
--- these are no command lines, or ask for help
+-- these are no command lines, or ask for the help or the version
 pub record Refuses : Type 0 where
   pub no_command : fault_of kcount_app (codes "kcount" ∷ []) ≡ MissingSubcommand ∷ []
   pub other_command : fault_of kcount_app (codes "kcount" ∷ codes "frob" ∷ [])

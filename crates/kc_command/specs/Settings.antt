@@ -5,9 +5,9 @@ use Rattle.kc_report.specs.declared.dump.Dump.{Dump}
 use Rattle.kc_command.specs.declared.settings.Print.{Print}
 use Rattle.kc_command.specs.declared.settings.Print.TheVariants.{Table}
 
--- the length of the words; the slots that the hash tables begin with, over all stripes; the threads; whether both
+-- the length of the words; the slots with which the hash tables begin, over all stripes; the threads; whether both
 -- strands count; the least quality byte that counts; the stripes; the positions of a batch; which report is written;
--- how a dump is; and the greatest count that has a line of its own in a histogram
+-- the form of a dump; and the greatest count with a line of its own in a histogram
 pub record Settings : Type 0 where
   pub k : ℕ
   pub size : ℕ
@@ -25,7 +25,7 @@ pub record AreStripes (stripes : ℕ) : Type 0 where
   pub power : (s : ℕ) × (stripes ≡ 2 ^ s)
   pub at_most : stripes ≤ 64
 
--- the limits of what can be set; there are no more stripes than words
+-- the limits of the settings; there are no more stripes than words
 pub record IsWithinLimits (settings : Settings) : Type 0 where
   pub size_low : 1 ≤ settings.size
   pub size_high : settings.size ≤ 2 ^ 40
@@ -42,7 +42,7 @@ pub record IsWithinLimits (settings : Settings) : Type 0 where
   pub high_low : 1 ≤ settings.high
   pub high_high : settings.high ≤ 10000000
 
--- so many stripes, or as many as there are words of length k where these are fewer
+-- the number of stripes, or the number of words of length k if that is lower
 abbrev pub lowered : ℕ → ℕ → ℕ
 lowered k stripes = min stripes (4 ^ k)
 
@@ -50,7 +50,7 @@ lowered k stripes = min stripes (4 ^ k)
 abbrev pub whole_dump : Dump
 whole_dump = record { column = false; tab = false; lower = 0; upper = 2 ^ 62 }
 
--- what is set where nothing else is asked for
+-- the settings if no option but the length is given
 abbrev pub defaults : ℕ → Settings
 defaults k = record {
   k = k;
@@ -65,6 +65,6 @@ defaults k = record {
   high = 10000;
 }
 
--- by which rule the words count
+-- the rule by which words count
 abbrev pub rule_of : Settings → CountingRule
 rule_of settings = unlisted_rule settings.k settings.both settings.floor

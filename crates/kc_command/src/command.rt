@@ -5,20 +5,23 @@ ghost use Rattle.kc_command.specs.Command.{
   bare_app,
   count_shape,
   dump_shape,
+  filter_shape,
   histo_shape,
+  intersect_shape,
   kcount_app,
   merge_shape,
   profile_shape,
   query_shape,
   select_shape,
   stats_shape,
+  subtract_shape,
 };
 
 use crate::command_arguments::{
-    batch, canonical, column, counted, explain, file, files, first, high, invert, keep,
-    lower_count, max_count, mer_len, min_count, min_qual_char, min_share, only, output, output2,
-    pairs, print, second, size, stats, stripes, tab, table, threads, upper_count, with_short,
-    words,
+    batch, canonical, column, counted_table, counts, explain, file, files, first, high, invert,
+    keep, lower_count, max_count, mer_len, min_count, min_qual_char, min_share, only, output,
+    output2, pairs, print, second, size, stats, stripes, tab, table, take, threads, upper_count,
+    with_short, words,
 };
 use crate::help;
 use clap::Command;
@@ -39,8 +42,17 @@ pub const STATS: &str = "stats";
 /// The name of the command that looks words up in a table.
 pub const QUERY: &str = "query";
 
-/// The name of the command that writes the sum of two tables.
+/// The name of the command that writes the sum of tables.
 pub const MERGE: &str = "merge";
+
+/// The name of the command that writes the words that all tables have.
+pub const INTERSECT: &str = "intersect";
+
+/// The name of the command that subtracts tables from a table.
+pub const SUBTRACT: &str = "subtract";
+
+/// The name of the command that writes the words of a table with counts within bounds.
+pub const FILTER: &str = "filter";
 
 /// The name of the command that writes the reads that a table selects.
 pub const SELECT: &str = "select";
@@ -48,7 +60,7 @@ pub const SELECT: &str = "select";
 /// The name of the command that writes the counts along reads.
 pub const PROFILE: &str = "profile";
 
-/// The command line of `kcount`. Options take texts, which are judged when the command line has been read.
+/// The command line of `kcount`. Options take texts, which are checked after the command line has been read.
 pub fn command<'a>(alloc: Global) -> Result<Command<'a>, AllocError>
     ensures { IfOk result (λ command. app_of command ≡ kcount_app) }
 {
@@ -58,11 +70,14 @@ pub fn command<'a>(alloc: Global) -> Result<Command<'a>, AllocError>
     let command = with_command(command, stats_command(alloc));
     let command = with_command(command, query_command(alloc));
     let command = with_command(command, merge_command(alloc));
+    let command = with_command(command, intersect_command(alloc));
+    let command = with_command(command, subtract_command(alloc));
+    let command = with_command(command, filter_command(alloc));
     let command = with_command(command, select_command(alloc));
     with_command(command, profile_command(alloc))
 }
 
-// The command with one more command, where there was memory for both.
+// The command with one more command, if there is memory for both.
 fn with_command<'a>(
     command: Result<Command<'a>, AllocError>,
     more: Result<Command<'a>, AllocError>,
@@ -73,11 +88,11 @@ fn with_command<'a>(
     command?.subcommand(more?)
 }
 
-// `kcount` before it has commands, of which it wants one.
+// `kcount` without its commands, of which it requires one.
 fn without_commands<'a>(alloc: Global) -> Command<'a>
     ensures { app_of result ≡ bare_app }
 {
-    described(alloc, "kcount", help::KCOUNT, help::AFTER_KCOUNT)
+    command_with_help(alloc, "kcount", help::KCOUNT, help::AFTER_KCOUNT)
         .version("0.1.0")
         .subcommand_required(true)
 }
@@ -105,7 +120,7 @@ fn count_command<'a>(alloc: Global) -> Result<Command<'a>, AllocError>
         explain(alloc),
         files(alloc),
     ]?;
-    described(alloc, COUNT, help::COUNT, help::AFTER_COUNT).args(arguments)
+    command_with_help(alloc, COUNT, help::COUNT, help::AFTER_COUNT).args(arguments)
 }
 
 // The command that writes the words of a table.
@@ -121,7 +136,7 @@ fn dump_command<'a>(alloc: Global) -> Result<Command<'a>, AllocError>
         explain(alloc),
         file(alloc),
     ]?;
-    described(alloc, DUMP, help::DUMP, help::AFTER_DUMP).args(arguments)
+    command_with_help(alloc, DUMP, help::DUMP, help::AFTER_DUMP).args(arguments)
 }
 
 // The command that writes how many words of a table have which count.
@@ -129,7 +144,7 @@ fn histo_command<'a>(alloc: Global) -> Result<Command<'a>, AllocError>
     ensures { IfOk result (λ command. shape_of command ≡ histo_shape) }
 {
     let arguments = vec![in alloc; high(alloc), output(alloc), explain(alloc), file(alloc)]?;
-    described(alloc, HISTO, help::HISTO, help::AFTER_HISTO).args(arguments)
+    command_with_help(alloc, HISTO, help::HISTO, help::AFTER_HISTO).args(arguments)
 }
 
 // The command that writes four numbers about the words of a table.
@@ -137,7 +152,7 @@ fn stats_command<'a>(alloc: Global) -> Result<Command<'a>, AllocError>
     ensures { IfOk result (λ command. shape_of command ≡ stats_shape) }
 {
     let arguments = vec![in alloc; output(alloc), explain(alloc), file(alloc)]?;
-    described(alloc, STATS, help::STATS, help::AFTER_STATS).args(arguments)
+    command_with_help(alloc, STATS, help::STATS, help::AFTER_STATS).args(arguments)
 }
 
 // The command that looks words up in a table.
@@ -145,15 +160,57 @@ fn query_command<'a>(alloc: Global) -> Result<Command<'a>, AllocError>
     ensures { IfOk result (λ command. shape_of command ≡ query_shape) }
 {
     let arguments = vec![in alloc; output(alloc), explain(alloc), table(alloc), words(alloc)]?;
-    described(alloc, QUERY, help::QUERY, help::AFTER_QUERY).args(arguments)
+    command_with_help(alloc, QUERY, help::QUERY, help::AFTER_QUERY).args(arguments)
 }
 
-// The command that writes the sum of two tables.
+// The command that writes the sum of tables.
 fn merge_command<'a>(alloc: Global) -> Result<Command<'a>, AllocError>
     ensures { IfOk result (λ command. shape_of command ≡ merge_shape) }
 {
     let arguments = vec![in alloc; output(alloc), explain(alloc), first(alloc), second(alloc)]?;
-    described(alloc, MERGE, help::MERGE, help::AFTER_MERGE).args(arguments)
+    command_with_help(alloc, MERGE, help::MERGE, help::AFTER_MERGE).args(arguments)
+}
+
+// The command that writes the words that all tables have.
+fn intersect_command<'a>(alloc: Global) -> Result<Command<'a>, AllocError>
+    ensures { IfOk result (λ command. shape_of command ≡ intersect_shape) }
+{
+    let arguments = vec![in alloc;
+        take(alloc),
+        output(alloc),
+        explain(alloc),
+        first(alloc),
+        second(alloc),
+    ]?;
+    command_with_help(alloc, INTERSECT, help::INTERSECT, help::AFTER_INTERSECT).args(arguments)
+}
+
+// The command that subtracts tables from a table.
+fn subtract_command<'a>(alloc: Global) -> Result<Command<'a>, AllocError>
+    ensures { IfOk result (λ command. shape_of command ≡ subtract_shape) }
+{
+    let arguments = vec![in alloc;
+        counts(alloc),
+        output(alloc),
+        explain(alloc),
+        first(alloc),
+        second(alloc),
+    ]?;
+    command_with_help(alloc, SUBTRACT, help::SUBTRACT, help::AFTER_SUBTRACT).args(arguments)
+}
+
+// The command that writes the words of a table with counts within bounds.
+fn filter_command<'a>(alloc: Global) -> Result<Command<'a>, AllocError>
+    ensures { IfOk result (λ command. shape_of command ≡ filter_shape) }
+{
+    let arguments = vec![in alloc;
+        with_short(lower_count(alloc), 'L'),
+        with_short(upper_count(alloc), 'U'),
+        output(alloc),
+        explain(alloc),
+        file(alloc),
+    ]?;
+    command_with_help(alloc, FILTER, help::FILTER, help::AFTER_FILTER).args(arguments)
 }
 
 // The command that writes the reads that a table selects.
@@ -172,10 +229,10 @@ fn select_command<'a>(alloc: Global) -> Result<Command<'a>, AllocError>
         output(alloc),
         output2(alloc),
         explain(alloc),
-        counted(alloc),
+        counted_table(alloc),
         files(alloc),
     ]?;
-    described(alloc, SELECT, help::SELECT, help::AFTER_SELECT).args(arguments)
+    command_with_help(alloc, SELECT, help::SELECT, help::AFTER_SELECT).args(arguments)
 }
 
 // The command that writes the counts of the words along reads.
@@ -186,14 +243,14 @@ fn profile_command<'a>(alloc: Global) -> Result<Command<'a>, AllocError>
         min_qual_char(alloc),
         output(alloc),
         explain(alloc),
-        counted(alloc),
+        counted_table(alloc),
         files(alloc),
     ]?;
-    described(alloc, PROFILE, help::PROFILE, help::AFTER_PROFILE).args(arguments)
+    command_with_help(alloc, PROFILE, help::PROFILE, help::AFTER_PROFILE).args(arguments)
 }
 
 // A command without arguments, with the texts at the top and at the end of its help.
-fn described<'a>(alloc: Global, name: &'a str, top: &'a str, end: &'a str) -> Command<'a>
+fn command_with_help<'a>(alloc: Global, name: &'a str, top: &'a str, end: &'a str) -> Command<'a>
     ensures { app_of result ≡ new_app name.entry.now }
 {
     Command::new(alloc, name).about(top).after_help(end)

@@ -6,6 +6,7 @@ ghost use Rattle.kc_command.specs.Command.{
   canonical_option,
   column_option,
   counted_argument,
+  counts_option,
   explain_option,
   file_argument,
   files_argument,
@@ -34,6 +35,7 @@ ghost use Rattle.kc_command.specs.Command.{
   stripes_option,
   tab_option,
   table_argument,
+  take_option,
   threads_option,
   upper_count_option,
   value_option,
@@ -53,7 +55,7 @@ pub(crate) fn mer_len<'a>(alloc: Global) -> Arg<'a>
     with_short(value_option(alloc, "mer-len", "K", help), 'm')
 }
 
-/// `-s`, `--size`: the slots that the hash tables begin with.
+/// `-s`, `--size`: the slots with which the hash tables begin.
 pub(crate) fn size<'a>(alloc: Global) -> Arg<'a>
     ensures rule { rule_of result ≡ size_option }
     ensures own { result.global ≡ false }
@@ -152,23 +154,23 @@ pub(crate) fn tab<'a>(alloc: Global) -> Arg<'a>
     flag_option(alloc, "tab", help)
 }
 
-/// `--lower-count`: the least count that a dump shows.
+/// `--lower-count`: the least count of a k-mer that is not left out.
 pub(crate) fn lower_count<'a>(alloc: Global) -> Arg<'a>
     ensures rule { rule_of result ≡ lower_count_option }
     ensures own { result.global ≡ false }
 {
-    let help = "Dump no k-mer with a count below this one, 0 to 2^62{n}\
-        [default: 0]";
+    let help = "Leave out k-mers with a count below this one,{n}\
+        0 to 2^62 [default: 0]";
     value_option(alloc, "lower-count", "N", help)
 }
 
-/// `--upper-count`: the greatest count that a dump shows.
+/// `--upper-count`: the greatest count of a k-mer that is not left out.
 pub(crate) fn upper_count<'a>(alloc: Global) -> Arg<'a>
     ensures rule { rule_of result ≡ upper_count_option }
     ensures own { result.global ≡ false }
 {
-    let help = "Dump no k-mer with a count above this one, 0 to 2^62{n}\
-        [default: 2^62]";
+    let help = "Leave out k-mers with a count above this one,{n}\
+        0 to 2^62 [default: 2^62]";
     value_option(alloc, "upper-count", "N", help)
 }
 
@@ -182,7 +184,7 @@ pub(crate) fn high<'a>(alloc: Global) -> Arg<'a>
     value_option(alloc, "high", "N", help)
 }
 
-/// `--only`: the file of the k-mers to which a count is kept.
+/// `--only`: the file with the only k-mers that are counted.
 pub(crate) fn only<'a>(alloc: Global) -> Arg<'a>
     ensures rule { rule_of result ≡ only_option }
     ensures own { result.global ≡ false }
@@ -190,6 +192,25 @@ pub(crate) fn only<'a>(alloc: Global) -> Arg<'a>
     let help = "Count only k-mers that occur in this FASTA or FASTQ{n}\
         file [default: all k-mers]";
     value_option(alloc, "only", "FILE", help)
+}
+
+/// `--take`: the count of a k-mer in an intersection.
+pub(crate) fn take<'a>(alloc: Global) -> Arg<'a>
+    ensures rule { rule_of result ≡ take_option }
+    ensures own { result.global ≡ false }
+{
+    let help = "Which count a k-mer gets of its counts in the tables:{n}\
+        min, max, sum or first [default: min]";
+    value_option(alloc, "take", "WHICH", help)
+}
+
+/// `--counts`: counts are subtracted, and not k-mers.
+pub(crate) fn counts<'a>(alloc: Global) -> Arg<'a>
+    ensures rule { rule_of result ≡ counts_option }
+    ensures own { result.global ≡ false }
+{
+    let help = "Subtract counts: keep what is left of FIRST's counts";
+    flag_option(alloc, "counts", help)
 }
 
 /// `--min-count`: the least count of a solid k-mer.
@@ -279,7 +300,7 @@ pub(crate) fn explain<'a>(alloc: Global) -> Arg<'a>
     flag_option(alloc, "explain", help)
 }
 
-/// FILE, any number of them: the files of reads.
+/// FILE, any number of times: the files of reads.
 pub(crate) fn files<'a>(alloc: Global) -> Arg<'a>
     ensures rule { rule_of result ≡ files_argument }
     ensures own { result.global ≡ false }
@@ -288,7 +309,7 @@ pub(crate) fn files<'a>(alloc: Global) -> Arg<'a>
     several_arguments(alloc, "file", "FILE", help)
 }
 
-/// FILE, one or none: the table.
+/// FILE, at most once: the table.
 pub(crate) fn file<'a>(alloc: Global) -> Arg<'a>
     ensures rule { rule_of result ≡ file_argument }
     ensures own { result.global ≡ false }
@@ -297,52 +318,52 @@ pub(crate) fn file<'a>(alloc: Global) -> Arg<'a>
     one_argument(alloc, "file", "FILE", help)
 }
 
-/// TABLE, which has to be given: the table that is asked.
+/// TABLE, required: the table of a query.
 pub(crate) fn table<'a>(alloc: Global) -> Arg<'a>
     ensures rule { rule_of result ≡ table_argument }
     ensures own { result.global ≡ false }
 {
     let help = "Table that `kcount count` wrote";
-    required(one_argument(alloc, "file", "TABLE", help))
+    as_required(one_argument(alloc, "file", "TABLE", help))
 }
 
-/// TABLE, which has to be given: the table of a selection or of a profile.
-pub(crate) fn counted<'a>(alloc: Global) -> Arg<'a>
+/// TABLE, required: the table of a selection or of a profile.
+pub(crate) fn counted_table<'a>(alloc: Global) -> Arg<'a>
     ensures rule { rule_of result ≡ counted_argument }
     ensures own { result.global ≡ false }
 {
     let help = "Table that `kcount count` wrote";
-    required(one_argument(alloc, "table", "TABLE", help))
+    as_required(one_argument(alloc, "table", "TABLE", help))
 }
 
-/// FIRST, which has to be given: a table to add.
+/// FIRST, required: the first of several tables.
 pub(crate) fn first<'a>(alloc: Global) -> Arg<'a>
     ensures rule { rule_of result ≡ first_argument }
     ensures own { result.global ≡ false }
 {
-    let help = "Table that `kcount count` or `kcount merge` wrote";
-    required(one_argument(alloc, "first", "FIRST", help))
+    let help = "Table of k-mers, as `kcount count` writes it";
+    as_required(one_argument(alloc, "first", "FIRST", help))
 }
 
-/// SECOND, which has to be given: the other table to add.
+/// SECOND, at least once: the other tables. `has_too_many_tables` returns whether there are more than 63.
 pub(crate) fn second<'a>(alloc: Global) -> Arg<'a>
     ensures rule { rule_of result ≡ second_argument }
     ensures own { result.global ≡ false }
 {
-    let help = "Another such table";
-    required(one_argument(alloc, "second", "SECOND", help))
+    let help = "Other such tables, 1 to 63";
+    as_required(several_arguments(alloc, "second", "SECOND", help))
 }
 
-/// WORD, at least one: the k-mers that are asked for.
+/// WORD, at least once: the k-mers of a query.
 pub(crate) fn words<'a>(alloc: Global) -> Arg<'a>
     ensures rule { rule_of result ≡ words_argument }
     ensures own { result.global ≡ false }
 {
     let help = "K-mers of the table's length, of the letters ACGT or acgt";
-    required(several_arguments(alloc, "word", "WORD", help))
+    as_required(several_arguments(alloc, "word", "WORD", help))
 }
 
-/// The option, with a short name too.
+/// The option, also with a short name.
 pub(crate) fn with_short(option: Arg<'_>, letter: char) -> Arg<'_>
     ensures rule { rule_of result ≡ with_short letter (rule_of option.entry) }
     ensures own { result.global ≡ option.entry.global }
@@ -350,7 +371,7 @@ pub(crate) fn with_short(option: Arg<'_>, letter: char) -> Arg<'_>
     option.short(letter)
 }
 
-// An option with one value, which the help calls `value`.
+// An option with one value, called `value` in the help.
 fn value_option<'a>(alloc: Global, name: &'a str, value: &'a str, help: &'a str) -> Arg<'a>
     ensures rule { rule_of result ≡ value_option name.entry.now }
     ensures own { result.global ≡ false }
@@ -372,7 +393,7 @@ fn flag_option<'a>(alloc: Global, name: &'a str, help: &'a str) -> Arg<'a>
         .help(help)
 }
 
-// An argument that is given once or not at all, which the help calls `value`.
+// An argument that is given at most once, called `value` in the help.
 fn one_argument<'a>(alloc: Global, name: &'a str, value: &'a str, help: &'a str) -> Arg<'a>
     ensures rule { rule_of result ≡ one_argument name.entry.now }
     ensures own { result.global ≡ false }
@@ -380,7 +401,7 @@ fn one_argument<'a>(alloc: Global, name: &'a str, value: &'a str, help: &'a str)
     Arg::new(alloc, name).value_name(value).help(help)
 }
 
-// An argument that is given any number of times, each of which the help calls `value`.
+// An argument that is given any number of times, called `value` in the help.
 fn several_arguments<'a>(alloc: Global, name: &'a str, value: &'a str, help: &'a str) -> Arg<'a>
     ensures rule { rule_of result ≡ several_arguments name.entry.now }
     ensures own { result.global ≡ false }
@@ -391,8 +412,8 @@ fn several_arguments<'a>(alloc: Global, name: &'a str, value: &'a str, help: &'a
         .help(help)
 }
 
-// The argument, which has to be given.
-fn required(argument: Arg<'_>) -> Arg<'_>
+// The argument, as a required one.
+fn as_required(argument: Arg<'_>) -> Arg<'_>
     ensures rule { rule_of result ≡ required (rule_of argument.entry) }
     ensures own { result.global ≡ argument.entry.global }
 {

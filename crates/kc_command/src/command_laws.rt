@@ -3,6 +3,8 @@ ghost use Rattle.kc_command.specs.Laws.{
   CountsBothStrands,
   CountsFiles,
   CountsListedWords,
+  FiltersTables,
+  IntersectsTables,
   JudgesInOrder,
   KeepsLimits,
   MergesTables,
@@ -12,15 +14,19 @@ ghost use Rattle.kc_command.specs.Laws.{
   ScalesNumbers,
   SelectsPairs,
   SelectsReads,
+  SubtractsTables,
 };
 
-/// What some command lines ask for, and why others are refused.
+/// The values that some command lines ask for, and why others are refused.
 pub fn command_lines()
     ensures counts { CountsBothStrands }
     ensures files { CountsFiles }
     ensures listed { CountsListedWords }
     ensures tables { ReadsTables }
     ensures merges { MergesTables }
+    ensures intersects { IntersectsTables }
+    ensures subtracts { SubtractsTables }
+    ensures filters { FiltersTables }
     ensures selects { SelectsReads }
     ensures pairs { SelectsPairs }
     ensures profiles { ProfilesRecords }

@@ -18,7 +18,7 @@ Examples:
 
 /// At the top of the help of `count`.
 pub(crate) const COUNT: &str = "\
-Counts the k-mers of FASTA or FASTQ files, into a table or a report.";
+Counts the k-mers of FASTA or FASTQ files into a table or a report.";
 
 /// At the end of the help of `count`.
 pub(crate) const AFTER_COUNT: &str = "\
@@ -106,14 +106,15 @@ Examples:
 
 /// At the top of the help of `merge`.
 pub(crate) const MERGE: &str = "\
-Writes the sum of two tables.";
+Writes the sum of two or more tables.";
 
 /// At the end of the help of `merge`.
 pub(crate) const AFTER_MERGE: &str = "\
-The sum has each k-mer of FIRST or SECOND, and its counts in both added. Both
+The sum has each k-mer of any table, with its counts in all tables added. All
 tables must be counted with the same --mer-len, --canonical and --min-qual-char,
 and without --only. A table that begins with `KCT 1` does not record the last
-two: they are not compared, and the sum does not record them either.
+two: they are not compared, and the sum does not record them either. A count or
+a sum of counts above 2^62 is an error.
 
 Exit status: 0 on success, 1 on an error, 2 for an invalid command line. Errors
 are printed on standard error.
@@ -121,7 +122,63 @@ are printed on standard error.
 Examples:
   kcount count -m 21 -C -o first.kct reads_1.fq
   kcount count -m 21 -C -o second.kct reads_2.fq
-  kcount merge -o both.kct first.kct second.kct";
+  kcount merge -o both.kct first.kct second.kct
+  kcount merge -o week.kct monday.kct tuesday.kct wednesday.kct";
+
+/// At the top of the help of `intersect`.
+pub(crate) const INTERSECT: &str = "\
+Writes the k-mers that all of two or more tables have.";
+
+/// At the end of the help of `intersect`.
+pub(crate) const AFTER_INTERSECT: &str = "\
+The result has each k-mer that every table has. Its count is the least of its
+counts in the tables, or with --take the greatest (max), the sum (sum) or the
+count in FIRST (first). All tables must have the same --mer-len and --canonical.
+The result begins with `KCT 1`: it does not record what was counted. A count or
+a sum of counts above 2^62 is an error.
+
+Exit status: 0 on success, 1 on an error, 2 for an invalid command line. Errors
+are printed on standard error.
+
+Examples:
+  kcount intersect -o common.kct first.kct second.kct third.kct
+  kcount intersect --take first reads.kct genome.kct > genomic.kct";
+
+/// At the top of the help of `subtract`.
+pub(crate) const SUBTRACT: &str = "\
+Writes the k-mers of a table that other tables do not have.";
+
+/// At the end of the help of `subtract`.
+pub(crate) const AFTER_SUBTRACT: &str = "\
+The result has each k-mer of FIRST that no other table has, with its count in
+FIRST. With --counts it has each k-mer whose count in FIRST is above the sum of
+its counts in the other tables, with the difference as its count. All tables
+must have the same --mer-len and --canonical. The result begins with `KCT 1`: it
+does not record what was counted.
+
+Exit status: 0 on success, 1 on an error, 2 for an invalid command line. Errors
+are printed on standard error.
+
+Examples:
+  kcount subtract -o clean.kct reads.kct phix.kct adapters.kct
+  kcount subtract --counts all.kct monday.kct > others.kct";
+
+/// At the top of the help of `filter`.
+pub(crate) const FILTER: &str = "\
+Writes the k-mers of a table whose counts are within bounds.";
+
+/// At the end of the help of `filter`.
+pub(crate) const AFTER_FILTER: &str = "\
+The result is a table with each k-mer whose count is at least --lower-count and
+at most --upper-count, with the same count. It begins with `KCT 1`: it does not
+record what was counted. Without FILE the table is read from standard input.
+
+Exit status: 0 on success, 1 on an error, 2 for an invalid command line. Errors
+are printed on standard error.
+
+Examples:
+  kcount filter -L 2 -o solid.kct reads.kct
+  kcount count -m 21 -C reads.fq.gz | kcount filter -U 100 -o rare.kct";
 
 /// At the top of the help of `select`.
 pub(crate) const SELECT: &str = "\

@@ -1,18 +1,19 @@
-//! The command line of `kcount`: what its commands and options are, and what they ask for.
+//! The command line of `kcount`: its commands and options, and what they ask for.
 //!
-//! `command::command` makes the command line that `clap` reads, with the text of its help, and the module `command` has
-//! the names of its commands. From what `clap` found, `options` makes the `Options` of a count, `dump_options` how a
-//! dump is laid out, `high_of` how far a histogram goes, `select_options` which reads are selected, and
-//! `profile_options` which bases count in a profile; `text_of` gives the text of an option as it was given, and
-//! `has_flag` returns whether a flag was given. The first option whose value is outside its limits is returned as its
-//! `OptionName`, and `pairs_refusal` returns why options of `select` don't go together. `command_laws` has worked
-//! command lines.
+//! `command::command` makes the command line that `clap` reads, with the text of its help; the module `command` has the
+//! names of its commands. From what `clap` found, `options` makes the `Options` of a count, `dump_options` the form of
+//! a dump, `high_of` the highest count of a histogram, `intersect_options`, `subtract_options` and `filter_options` how
+//! tables are combined, `select_options` the rule of a selection, and `profile_options` that of a profile; `text_of`
+//! returns the text of an option, and `has_flag` whether a flag was given. The first option with a value outside its
+//! limits is returned as its `OptionName`, `pairs_refusal` returns why options of `select` conflict, and
+//! `has_too_many_tables` whether more tables are named than can be combined. `command_laws` has worked command lines.
 //!
 //! ```ignore
 //! let options = Options::new(k).with_print(Print::Dump).with_dump(Dump::in_columns());
 //! ```
 #![tactic(auto)]
 
+mod combining_options;
 pub mod command;
 mod command_arguments;
 pub mod command_laws;
@@ -23,6 +24,9 @@ mod pair_options;
 mod settings;
 mod settings_of_options;
 
+pub use combining_options::{
+    filter_options, has_too_many_tables, intersect_options, subtract_options,
+};
 pub use option_name::OptionName;
 pub use pair_options::{PairsRefusal, SelectOptions, pairs_refusal};
 pub use settings::{Options, Print};

@@ -4,26 +4,26 @@ ghost use Rattle.std.specs.Option.{SomeIff};
 ghost use Rattle.std.specs.Char.{is_ascii_digit};
 ghost use Rattle.kc_command.specs.Numbers.{between, number_between, number_of, scaled_between, scaled_number, unit};
 
-/// The number that a text of decimal digits alone is, if it is between the bounds, both of which count. However
-/// many digits there are, the number never wraps.
+/// The number in a text of decimal digits, if it is between the bounds, inclusive. However many digits there are, the
+/// number never wraps.
 pub(crate) fn number_between(text: &[u8], least: u64, most: u64) -> Option<u64>
     ensures value { result ≡ number_between least most text.now }
     ensures limits { IfSome result (λ number. (least ≤ number) × (number ≤ most)) }
 {
-    between(number(text)?, least, most)
+    checked_between(number(text)?, least, most)
 }
 
-/// The number that a text of digits is which may have `k`, `M` or `G` (10^3, 10^6 or 10^9) behind them, if it is
+/// The number in a text of decimal digits, which may be followed by `k`, `M` or `G` (10^3, 10^6 or 10^9), if it is
 /// between the bounds.
 pub(crate) fn scaled_between(text: &[u8], least: u64, most: u64) -> Option<u64>
     ensures value { result ≡ scaled_between least most text.now }
     ensures limits { IfSome result (λ number. (least ≤ number) × (number ≤ most)) }
 {
-    between(scaled_number(text)?, least, most)
+    checked_between(scaled_number(text)?, least, most)
 }
 
 // The number, if it is between the bounds.
-fn between(number: u64, least: u64, most: u64) -> Option<u64>
+fn checked_between(number: u64, least: u64, most: u64) -> Option<u64>
     ensures value { result ≡ between least most (Some number) }
     ensures limits { IfSome result (λ number. (least ≤ number) × (number ≤ most)) }
 {
@@ -33,7 +33,7 @@ fn between(number: u64, least: u64, most: u64) -> Option<u64>
     Some(number)
 }
 
-// The number that a text is, with a suffix or without one, where it fits 64 bits.
+// The number in a text, with or without a suffix, if it fits 64 bits.
 fn scaled_number(text: &[u8]) -> Option<u64>
     ensures { result ≡ between 0 (2 ^ 64 - 1) (scaled_number text.now) }
 {
@@ -46,7 +46,7 @@ fn scaled_number(text: &[u8]) -> Option<u64>
     }
 }
 
-// What a suffix stands for.
+// The factor of a suffix.
 fn unit(byte: u8) -> Option<u64>
     ensures { result ≡ unit byte }
 {
@@ -58,7 +58,7 @@ fn unit(byte: u8) -> Option<u64>
     }
 }
 
-// The number that a text of decimal digits alone is, where it fits 64 bits.
+// The number in a text of decimal digits, if it fits 64 bits.
 fn number(text: &[u8]) -> Option<u64>
     ensures { result ≡ between 0 (2 ^ 64 - 1) (number_of text.now) }
 {
@@ -72,7 +72,7 @@ fn number(text: &[u8]) -> Option<u64>
     Some(number)
 }
 
-// The number with one more digit at its end, where that fits 64 bits.
+// The number with one more digit at its end, if that fits 64 bits.
 fn with_digit(number: u64, digit: u64) -> Option<u64>
     ensures { SomeIff result (number * 10 + digit < 2 ^ 64) (number * 10 + digit) }
 {

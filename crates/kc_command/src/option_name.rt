@@ -1,8 +1,8 @@
-//! The names of the options whose values are judged.
+//! The names of the options whose values are checked.
 ghost use Rattle.std.specs.Prelude.{◌≡◌};
 ghost use Rattle.kc_command.specs.OptionName.{option_text};
 
-/// An option of the command line whose value can be refused, in the order in which they are judged.
+/// An option of the command line whose value can be refused, in the order in which they are checked.
 #[derive(Clone, Copy, Debug, PartialEq, Eq)]
 pub enum OptionName {
     /// `--mer-len`
@@ -21,6 +21,8 @@ pub enum OptionName {
     MinQualChar,
     /// `--keep`
     Keep,
+    /// `--take`
+    Take,
     /// `--stripes`
     Stripes,
     /// `--batch`
@@ -49,6 +51,7 @@ impl OptionName {
             OptionName::MinShare => "--min-share",
             OptionName::MinQualChar => "--min-qual-char",
             OptionName::Keep => "--keep",
+            OptionName::Take => "--take",
             OptionName::Stripes => "--stripes",
             OptionName::Batch => "--batch",
             OptionName::Print => "--print",

@@ -1,6 +1,6 @@
-//! The options of `select`, and which of them go together.
-ghost use Rattle.std.specs.Prelude.{◌≡◌, [], codes, length, option_map, unwrap_or};
-ghost use Rattle.clap.specs.Words.{all_of, found_of, rows_of};
+//! The options of `select`, and which of them conflict.
+ghost use Rattle.std.specs.Prelude.{◌≡◌, option_map};
+ghost use Rattle.clap.specs.Words.{found_of, rows_of};
 ghost use Rattle.kc_command.specs.Arguments.{
   has_pairs,
   is_given,
@@ -10,7 +10,7 @@ ghost use Rattle.kc_command.specs.Arguments.{
   refusal_of_reads,
 };
 
-use crate::settings_of_options::text_of;
+use crate::settings_of_options::{text_of, value_count};
 use clap::ArgMatches;
 use kc_select::{PairRule, Selection};
 
@@ -19,18 +19,18 @@ use kc_select::{PairRule, Selection};
 pub struct SelectOptions {
     /// Which reads are solid, and whether the others are selected.
     pub selection: Selection,
-    /// How many reads of a pair have to be solid, where pairs are asked for.
+    /// How many reads of a pair have to be solid, if pairs are asked for.
     pub pairs: Option<PairRule>,
 }
 
-/// Why options of `select` don't go together.
+/// Why options of `select` conflict.
 #[derive(Clone, Copy, Debug, PartialEq, Eq)]
 pub enum PairsRefusal {
     /// `--keep` was given without `--pairs`.
     KeepAlone,
     /// `--output2` was given without `--pairs`.
     Output2Alone,
-    /// `--pairs` was given, and the files behind the table are not two.
+    /// `--pairs` was given without exactly two files after the table.
     NotTwoFiles,
     /// `--output2` was given without `--output`.
     NoOutput,
@@ -40,7 +40,7 @@ pub enum PairsRefusal {
     OneOutput,
 }
 
-/// Why the options of `select` don't go together, where they don't. It takes no memory.
+/// Why the options of `select` conflict, if they do. It takes no memory.
 pub fn pairs_refusal(matches: &ArgMatches<'_>) -> Option<PairsRefusal>
     ensures { result ≡ pairs_refusal (rows_of (found_of matches.now)) }
 {
@@ -61,18 +61,18 @@ pub(crate) fn has_pairs(matches: &ArgMatches<'_>) -> bool
     }
 }
 
-// Why options don't go together where pairs are asked for.
+// Why options conflict if pairs are asked for.
 fn refusal_of_pairs(matches: &ArgMatches<'_>) -> Option<PairsRefusal>
     ensures { result ≡ refusal_of_pairs (rows_of (found_of matches.now)) }
 {
-    if file_count(matches) == 2 {
+    if value_count(matches, "file") == 2 {
         refusal_of_outputs(text_of(matches, "output"), text_of(matches, "output2"))
     } else {
         Some(PairsRefusal::NotTwoFiles)
     }
 }
 
-// Why the outputs of pairs don't go together, by which of them are given.
+// Why the outputs of pairs conflict, by which of them are given.
 fn refusal_of_outputs(first: Option<&str>, second: Option<&str>) -> Option<PairsRefusal>
     ensures { result ≡ refusal_of_outputs
         (option_map (λ text. text.now) first.entry) (option_map (λ text. text.now) second.entry) }
@@ -85,7 +85,7 @@ fn refusal_of_outputs(first: Option<&str>, second: Option<&str>) -> Option<Pairs
     }
 }
 
-// Why options don't go together where no pairs are asked for.
+// Why options conflict if no pairs are asked for.
 fn refusal_of_reads(matches: &ArgMatches<'_>) -> Option<PairsRefusal>
     ensures { result ≡ refusal_of_reads (rows_of (found_of matches.now)) }
 {
@@ -103,14 +103,4 @@ fn is_given(matches: &ArgMatches<'_>, name: &str) -> bool
     ensures { result ≡ is_given name.now (rows_of (found_of matches.now)) }
 {
     text_of(matches, name).is_some()
-}
-
-// How many files are named behind the table.
-fn file_count(matches: &ArgMatches<'_>) -> usize
-    ensures { result ≡ length (unwrap_or (all_of (codes "file") (rows_of (found_of matches.now))) []) }
-{
-    match matches.get_strs("file") {
-        Some(files) => files.len(),
-        None => 0,
-    }
 }

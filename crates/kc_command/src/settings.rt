@@ -6,31 +6,31 @@ use kc_kmer::{K, Rule};
 use kc_report::Dump;
 use std::marker::Model;
 
-/// The greatest number of slots that the tables can begin with.
-pub(crate) const GREATEST_SIZE: u64 = 1 << 40;
+/// The greatest number of slots with which the tables can begin.
+pub(crate) const MAX_SIZE: u64 = 1 << 40;
 
 /// The greatest number of threads.
-pub(crate) const MOST_WORKERS: u32 = 64;
+pub(crate) const MAX_WORKERS: u32 = 64;
 
 /// The greatest number of stripes.
-pub(crate) const MOST_STRIPES: u32 = 64;
+pub(crate) const MAX_STRIPES: u32 = 64;
 
 /// The greatest number of positions of a batch.
-pub(crate) const GREATEST_BATCH: u64 = 1 << 36;
+pub(crate) const MAX_BATCH: u64 = 1 << 36;
 
-/// The slots that the hash tables begin with where nothing else is asked for.
+/// The default number of slots with which the hash tables begin.
 pub(crate) const USUAL_SIZE: u64 = 1_000_000;
 
-/// The threads where nothing else is asked for.
+/// The default number of threads.
 pub(crate) const USUAL_WORKERS: u32 = 1;
 
-/// The stripes where nothing else is asked for.
+/// The default number of stripes.
 pub(crate) const USUAL_STRIPES: u32 = 16;
 
-/// The positions of a batch where nothing else is asked for.
+/// The default number of positions of a batch.
 pub(crate) const USUAL_BATCH: u64 = 65_536;
 
-/// The greatest count that has a line of its own in a histogram where nothing else is asked for.
+/// The default of the greatest count with a line of its own in a histogram.
 pub(crate) const USUAL_HIGH: u64 = 10_000;
 
 /// The least quality byte, which every quality passes.
@@ -110,9 +110,9 @@ impl Model for Options {
 }
 
 impl Options {
-    /// To count the words of length `k` on one strand, of bases of every quality, by one thread, and write their table.
-    /// The hash tables begin with 1,000,000 slots in 16 stripes, or in as many as there are words where these are
-    /// fewer. A batch has 65,536 positions. A dump would show all rows in lines, a histogram would go up to 10,000.
+    /// Counts the words of length `k` on one strand, of bases of every quality, with one thread, and writes their
+    /// table. The hash tables begin with 1,000,000 slots in 16 stripes, or in as many as there are words if there are
+    /// fewer. A batch has 65,536 positions. A dump would print all rows in lines, a histogram would go up to 10,000.
     pub fn new(k: K) -> Options
         ensures { result ≡ defaults k }
     {
@@ -130,7 +130,7 @@ impl Options {
         }
     }
 
-    /// These settings, with hash tables that begin with `size` slots, over all stripes. Condition: it is 1 to 2^40.
+    /// These settings, with `size` slots at the start of the hash tables, over all stripes. Condition: it is 1 to 2^40.
     pub fn with_size(self, size: u64) -> Options
         requires low { 1 ≤ size }
         requires high { size ≤ 2 ^ 40 }
@@ -150,7 +150,7 @@ impl Options {
         Options { workers, ..options }
     }
 
-    /// These settings, with a word counted under its canonical form where both strands count.
+    /// These settings; if `both`, each word counts under its canonical form, on both strands.
     pub fn with_both(self, both: bool) -> Options
         ensures { result ≡ record self { both = both } }
     {
@@ -168,7 +168,7 @@ impl Options {
         Options { floor, ..options }
     }
 
-    /// These settings, with as many stripes, or with as many as there are words where these are fewer. Condition:
+    /// These settings, with so many stripes, or with as many as there are words if there are fewer. Condition:
     /// `stripes` is 1, 2, 4, 8, 16, 32 or 64.
     pub fn with_stripes(self, stripes: u32) -> Options
         requires { AreStripes stripes }
@@ -199,7 +199,7 @@ impl Options {
         Options { print, ..options }
     }
 
-    /// These settings, with a dump, where one is printed, laid out so. Condition: its bounds are at most 2^62.
+    /// These settings, with this form of a dump, if one is printed. Condition: its bounds are at most 2^62.
     pub fn with_dump(self, dump: Dump) -> Options
         requires lower { dump.lower ≤ 2 ^ 62 }
         requires upper { dump.upper ≤ 2 ^ 62 }
@@ -209,8 +209,8 @@ impl Options {
         Options { dump, ..options }
     }
 
-    /// These settings, with a histogram, where one is printed, whose last line but one is that of `high`. Condition: it
-    /// is 1 to 10,000,000.
+    /// These settings; a histogram, if one is printed, has its last line but one for `high`. Condition: it is 1 to
+    /// 10,000,000.
     pub fn with_high(self, high: u64) -> Options
         requires low { 1 ≤ high }
         requires most { high ≤ 10000000 }
@@ -220,14 +220,14 @@ impl Options {
         Options { high, ..options }
     }
 
-    /// By which rule the words count.
+    /// The rule by which words count.
     pub fn rule(&self) -> Rule
         ensures { result ≡ rule_of self.now }
     {
         Rule::new(self.k, self.both, self.floor)
     }
 
-    /// How many slots the hash tables begin with, over all stripes.
+    /// The number of slots with which the hash tables begin, over all stripes.
     pub fn size(&self) -> u64
         ensures value { result ≡ self.now.size }
         ensures some { 1 ≤ self.now.size }
@@ -270,7 +270,7 @@ impl Options {
         self.print
     }
 
-    /// The dump that is written, where one is.
+    /// The form of the dump, if one is written.
     pub fn dump(&self) -> Dump
         ensures value { result ≡ self.now.dump }
         ensures lower { self.now.dump.lower ≤ 2 ^ 62 }
@@ -279,7 +279,7 @@ impl Options {
         self.dump
     }
 
-    /// The greatest count that has a line of its own in the histogram, where one is written.
+    /// The greatest count with a line of its own in the histogram, if one is written.
     pub fn high(&self) -> u64
         ensures value { result ≡ self.now.high }
         ensures some { 1 ≤ self.now.high }
@@ -289,7 +289,7 @@ impl Options {
     }
 }
 
-// So many stripes, or where there are fewer words as many as words.
+// The number of stripes, or the number of words if that is lower.
 fn lowered_stripes(k: K, stripes: u32) -> u32
     ensures { result ≡ lowered k stripes }
 {

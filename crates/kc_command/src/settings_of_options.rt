@@ -1,6 +1,7 @@
 //! What the options of a command line ask for.
 ghost use Rattle.std.specs.Prelude.{MatchResult, IfSome, IfOk, Some, None, false, option_map, ◌≡◌, ◌≤◌, ◌^◌};
-ghost use Rattle.clap.specs.Words.{first_of, found_of, rows_of};
+ghost use Rattle.std.specs.Prelude.{[], length, unwrap_or};
+ghost use Rattle.clap.specs.Words.{all_of, first_of, found_of, rows_of};
 ghost use Rattle.kc_command.specs.Arguments.{
   AsksFor,
   AsksForCounting,
@@ -42,42 +43,42 @@ use crate::numbers::{number_between, scaled_between};
 use crate::option_name::OptionName;
 use crate::pair_options::{SelectOptions, has_pairs};
 use crate::settings::{
-    FLOOR, GREATEST_BATCH, GREATEST_SIZE, MOST_STRIPES, MOST_WORKERS, Options, Print, USUAL_BATCH,
-    USUAL_HIGH, USUAL_SIZE, USUAL_STRIPES, USUAL_WORKERS,
+    FLOOR, MAX_BATCH, MAX_SIZE, MAX_STRIPES, MAX_WORKERS, Options, Print, USUAL_BATCH, USUAL_HIGH,
+    USUAL_SIZE, USUAL_STRIPES, USUAL_WORKERS,
 };
 use clap::ArgMatches;
 use kc_kmer::K;
-use kc_report::{Dump, GREATEST_COUNT, GREATEST_HIGH};
+use kc_report::{Dump, MAX_COUNT, MAX_HIGH};
 use kc_select::{PairRule, Selection};
 use std::alloc::Global;
 
-/// The least count of a solid word where nothing else is asked for.
+/// The default of the least count of a solid word.
 const USUAL_LEAST: u64 = 2;
 
-/// How many of a hundred words have to be solid where nothing else is asked for: all.
+/// The default percentage of words that have to be solid: all.
 const WHOLE_SHARE: u64 = 100;
 
 /// What the options of `count` ask for.
 ///
 /// # Errors
-/// The first option, in the order of the help, whose value is outside its limits, whether it acts or not. An absent
-/// `--mer-len` counts as such.
+/// The first option, in the order of the help, with a value outside its limits, even if the option has no effect. A
+/// missing `--mer-len` is such an option.
 pub fn options(_alloc: Global, matches: &ArgMatches<'_>) -> Result<Options, OptionName>
     ensures first_bad { MatchResult result (λ o. first_bad (rows_of (found_of matches.now)) ≡ None)
         (λ name. first_bad (rows_of (found_of matches.now)) ≡ Some name) }
     ensures asked { IfOk result (AsksFor (rows_of (found_of matches.now))) }
 {
-    let options = counting(matches)?;
+    let options = counting_options(matches)?;
     let print = print(matches)?;
     let dump = dump_options(matches)?;
     let high = high_of(matches)?;
     Ok(options.with_print(print).with_dump(dump).with_high(high))
 }
 
-/// What the options of `dump` ask for. They are options of `count` too. It takes no memory.
+/// What the options of `dump` ask for. `count` has them, too. It takes no memory.
 ///
 /// # Errors
-/// The first of `--lower-count` and `--upper-count` whose value is not 0 to 2^62.
+/// The first of `--lower-count` and `--upper-count` with a value that is not 0 to 2^62.
 pub fn dump_options(matches: &ArgMatches<'_>) -> Result<Dump, OptionName>
     ensures first_bad { MatchResult result (λ d. first_bad_of_dump (rows_of (found_of matches.now)) ≡ None)
         (λ name. first_bad_of_dump (rows_of (found_of matches.now)) ≡ Some name) }
@@ -97,8 +98,8 @@ pub fn dump_options(matches: &ArgMatches<'_>) -> Result<Dump, OptionName>
 /// What the options of `select` ask for. It takes no memory.
 ///
 /// # Errors
-/// The first of `--min-count`, `--max-count`, `--min-share`, `--min-qual-char` and `--keep` whose value is outside its
-/// limits, whether it acts or not.
+/// The first of `--min-count`, `--max-count`, `--min-share`, `--min-qual-char` and `--keep` with a value outside its
+/// limits, even if the option has no effect.
 pub fn select_options(matches: &ArgMatches<'_>) -> Result<SelectOptions, OptionName>
     ensures first_bad { MatchResult result (λ s. first_bad_of_select (rows_of (found_of matches.now)) ≡ None)
         (λ name. first_bad_of_select (rows_of (found_of matches.now)) ≡ Some name) }
@@ -125,7 +126,7 @@ pub fn select_options(matches: &ArgMatches<'_>) -> Result<SelectOptions, OptionN
 /// What the options of `profile` ask for. It takes no memory.
 ///
 /// # Errors
-/// `--min-qual-char` where its value is outside its limits.
+/// `--min-qual-char` if its value is outside its limits.
 pub fn profile_options(matches: &ArgMatches<'_>) -> Result<Selection, OptionName>
     ensures first_bad { MatchResult result (λ s. first_bad_of_profile (rows_of (found_of matches.now)) ≡ None)
         (λ name. first_bad_of_profile (rows_of (found_of matches.now)) ≡ Some name) }
@@ -135,23 +136,23 @@ pub fn profile_options(matches: &ArgMatches<'_>) -> Result<Selection, OptionName
     Ok(Selection::profiles().with_floor(floor))
 }
 
-/// The greatest count that has a line of its own in a histogram, as `--high` of `histo` and of `count` asks for. It
-/// takes no memory.
+/// The greatest count with a line of its own in a histogram, as `--high` of `histo` and of `count` asks for. It takes
+/// no memory.
 ///
 /// # Errors
-/// `--high` where its value is not 1 to 10,000,000.
+/// `--high` if its value is not 1 to 10,000,000.
 pub fn high_of(matches: &ArgMatches<'_>) -> Result<u64, OptionName>
     ensures first_bad { MatchResult result (λ h. first_bad_of_histo (rows_of (found_of matches.now)) ≡ None)
         (λ name. first_bad_of_histo (rows_of (found_of matches.now)) ≡ Some name) }
     ensures asked { IfOk result (λ high. high_of (rows_of (found_of matches.now)) ≡ Some high) }
     ensures limits { IfOk result (λ high. (1 ≤ high) × (high ≤ 10000000)) }
 {
-    let high = number_of(matches, "high", USUAL_HIGH, 1, GREATEST_HIGH);
+    let high = number_of(matches, "high", USUAL_HIGH, 1, MAX_HIGH);
     high.ok_or(OptionName::High)
 }
 
-// What the options of `count` ask for, with the report left at its default.
-fn counting(matches: &ArgMatches<'_>) -> Result<Options, OptionName>
+// What the options of `count` ask for, with the default report.
+fn counting_options(matches: &ArgMatches<'_>) -> Result<Options, OptionName>
     ensures first_bad { MatchResult result (λ o. first_bad_of_counting (rows_of (found_of matches.now)) ≡ None)
         (λ name. first_bad_of_counting (rows_of (found_of matches.now)) ≡ Some name) }
     ensures asked { IfOk result (AsksForCounting (rows_of (found_of matches.now))) }
@@ -181,7 +182,7 @@ fn mer_len(matches: &ArgMatches<'_>) -> Result<K, OptionName>
     k.ok_or(OptionName::MerLen)
 }
 
-// The length that a text is.
+// The length in a text.
 fn length(text: &str) -> Option<K>
     ensures { result ≡ number_between 1 31 text.now }
 {
@@ -189,14 +190,14 @@ fn length(text: &str) -> Option<K>
     K::new(number as u32)
 }
 
-// The slots that the hash tables begin with.
+// The slots with which the hash tables begin.
 fn size(matches: &ArgMatches<'_>) -> Result<u64, OptionName>
     ensures value { IsValueOf OptionName.Size (size_of (rows_of (found_of matches.now))) result }
     ensures limits { IfOk result (λ size. (1 ≤ size) × (size ≤ 2 ^ 40)) }
 {
     let size = match text_of(matches, "size") {
         None => Some(USUAL_SIZE),
-        Some(text) => scaled_between(text.as_bytes(), 1, GREATEST_SIZE),
+        Some(text) => scaled_between(text.as_bytes(), 1, MAX_SIZE),
     };
     size.ok_or(OptionName::Size)
 }
@@ -211,7 +212,7 @@ fn threads(matches: &ArgMatches<'_>) -> Result<u32, OptionName>
         "threads",
         u64::from(USUAL_WORKERS),
         1,
-        u64::from(MOST_WORKERS),
+        u64::from(MAX_WORKERS),
     );
     match threads {
         Some(threads) => Ok(threads as u32),
@@ -231,7 +232,7 @@ fn min_qual_char(matches: &ArgMatches<'_>) -> Result<u8, OptionName>
     floor.ok_or(OptionName::MinQualChar)
 }
 
-// The one byte of a text, where it is a quality.
+// The byte of a text of one byte, if it is a quality.
 fn quality_byte(text: &[u8]) -> Option<u8>
     ensures value { result ≡ quality_byte text.now }
     ensures limits { IfSome result (λ floor. (33 ≤ floor) × (floor ≤ 126)) }
@@ -246,7 +247,7 @@ fn quality_byte(text: &[u8]) -> Option<u8>
 fn min_count(matches: &ArgMatches<'_>) -> Result<u64, OptionName>
     ensures { IsValueOf OptionName.MinCount (min_count_of (rows_of (found_of matches.now))) result }
 {
-    let least = number_of(matches, "min-count", USUAL_LEAST, 0, GREATEST_COUNT);
+    let least = number_of(matches, "min-count", USUAL_LEAST, 0, MAX_COUNT);
     least.ok_or(OptionName::MinCount)
 }
 
@@ -254,11 +255,11 @@ fn min_count(matches: &ArgMatches<'_>) -> Result<u64, OptionName>
 fn max_count(matches: &ArgMatches<'_>) -> Result<u64, OptionName>
     ensures { IsValueOf OptionName.MaxCount (max_count_of (rows_of (found_of matches.now))) result }
 {
-    let most = number_of(matches, "max-count", GREATEST_COUNT, 0, GREATEST_COUNT);
+    let most = number_of(matches, "max-count", MAX_COUNT, 0, MAX_COUNT);
     most.ok_or(OptionName::MaxCount)
 }
 
-// How many of a hundred words have to be solid.
+// The percentage of words that have to be solid.
 fn min_share(matches: &ArgMatches<'_>) -> Result<u64, OptionName>
     ensures value { IsValueOf OptionName.MinShare (min_share_of (rows_of (found_of matches.now))) result }
     ensures limits { IfOk result (λ share. share ≤ 100) }
@@ -278,7 +279,7 @@ fn keep(matches: &ArgMatches<'_>) -> Result<PairRule, OptionName>
     asked.ok_or(OptionName::Keep)
 }
 
-// The rule of pairs of this name.
+// The rule of pairs with this name.
 fn pair_rule_named(text: &str) -> Option<PairRule>
     ensures { result ≡ pair_rule_named text.now }
 {
@@ -296,13 +297,13 @@ fn stripes(matches: &ArgMatches<'_>) -> Result<u32, OptionName>
     let stripes = match text_of(matches, "stripes") {
         None => Some(USUAL_STRIPES),
         Some(text) => {
-            number_between(text.as_bytes(), 1, u64::from(MOST_STRIPES)).and_then(as_stripes)
+            number_between(text.as_bytes(), 1, u64::from(MAX_STRIPES)).and_then(as_stripes)
         }
     };
     stripes.ok_or(OptionName::Stripes)
 }
 
-// The number, where it is a power of two up to 64.
+// The number, if it is a power of two up to 64.
 fn as_stripes(number: u64) -> Option<u32>
     ensures { result ≡ as_stripes number }
 {
@@ -317,7 +318,7 @@ fn batch(matches: &ArgMatches<'_>) -> Result<u64, OptionName>
     ensures value { IsValueOf OptionName.Batch (batch_of (rows_of (found_of matches.now))) result }
     ensures limits { IfOk result (λ batch. (1 ≤ batch) × (batch ≤ 2 ^ 36)) }
 {
-    let batch = number_of(matches, "batch", USUAL_BATCH, 1, GREATEST_BATCH);
+    let batch = number_of(matches, "batch", USUAL_BATCH, 1, MAX_BATCH);
     batch.ok_or(OptionName::Batch)
 }
 
@@ -332,7 +333,7 @@ fn print(matches: &ArgMatches<'_>) -> Result<Print, OptionName>
     print.ok_or(OptionName::Print)
 }
 
-// The report of this name.
+// The report with this name.
 fn report_named(text: &str) -> Option<Print>
     ensures { result ≡ report_named text.now }
 {
@@ -345,21 +346,21 @@ fn report_named(text: &str) -> Option<Print>
     }
 }
 
-// The least count that a dump shows.
-fn lower_count(matches: &ArgMatches<'_>) -> Result<u64, OptionName>
+/// The least count of a word that is not left out.
+pub(crate) fn lower_count(matches: &ArgMatches<'_>) -> Result<u64, OptionName>
     ensures value { IsValueOf OptionName.LowerCount (lower_of (rows_of (found_of matches.now))) result }
     ensures limits { IfOk result (λ lower. lower ≤ 2 ^ 62) }
 {
-    let lower = number_of(matches, "lower-count", 0, 0, GREATEST_COUNT);
+    let lower = number_of(matches, "lower-count", 0, 0, MAX_COUNT);
     lower.ok_or(OptionName::LowerCount)
 }
 
-// The greatest count that a dump shows.
-fn upper_count(matches: &ArgMatches<'_>) -> Result<u64, OptionName>
+/// The greatest count of a word that is not left out.
+pub(crate) fn upper_count(matches: &ArgMatches<'_>) -> Result<u64, OptionName>
     ensures value { IsValueOf OptionName.UpperCount (upper_of (rows_of (found_of matches.now))) result }
     ensures limits { IfOk result (λ upper. upper ≤ 2 ^ 62) }
 {
-    let upper = number_of(matches, "upper-count", GREATEST_COUNT, 0, GREATEST_COUNT);
+    let upper = number_of(matches, "upper-count", MAX_COUNT, 0, MAX_COUNT);
     upper.ok_or(OptionName::UpperCount)
 }
 
@@ -383,11 +384,21 @@ fn number_of(
     }
 }
 
-/// The text of an option, where it was given.
+/// The text of an option, if it was given.
 pub fn text_of<'a>(matches: &ArgMatches<'a>, name: &str) -> Option<&'a str>
     ensures { option_map (λ text. text.now) result ≡ first_of name.now (rows_of (found_of matches.now)) }
 {
     matches.get_str(name)
+}
+
+/// How many values an argument has.
+pub(crate) fn value_count(matches: &ArgMatches<'_>, name: &str) -> usize
+    ensures { result ≡ length (unwrap_or (all_of name.now (rows_of (found_of matches.now))) []) }
+{
+    match matches.get_strs(name) {
+        Some(values) => values.len(),
+        None => 0,
+    }
 }
 
 /// Whether a flag was given. It takes no memory.

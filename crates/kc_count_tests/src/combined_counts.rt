@@ -1,8 +1,8 @@
-//! What the rules make of the counts of a word.
+//! The results of the rules for the counts of a word.
 use kc_combine::{Combines, CountDifference, Difference, Intersection, Sum, Take, Within};
 use std::process::Abort;
 
-const MOST: u64 = 4_611_686_018_427_387_904;
+const MAX_COUNT: u64 = 4_611_686_018_427_387_904;
 
 // Asserts that the rule makes this count of the counts.
 fn assert_count<H: Abort, C: Combines>(rt: &H, rule: &C, counts: &[u64], want: Option<u64>) {
@@ -14,8 +14,8 @@ const SUMS: &[(&[u64], Option<u64>)] = &[
     (&[], Some(0)),
     (&[1, 1, 1], Some(3)),
     (&[0, 0, 5], Some(5)),
-    (&[MOST - 1, 1], Some(MOST)),
-    (&[MOST - 1, 1, 1], None),
+    (&[MAX_COUNT - 1, 1], Some(MAX_COUNT)),
+    (&[MAX_COUNT - 1, 1, 1], None),
 ];
 
 #[test]
@@ -25,15 +25,15 @@ fn sums(rt: HostRuntime) {
     }
 }
 
-// What is taken, counts of a word, and what an intersection makes of them.
+// Which count is taken, counts of a word, and the result of an intersection.
 const INTERSECTIONS: &[(Take, &[u64], Option<u64>)] = &[
     (Take::Least, &[3, 1, 2], Some(1)),
     (Take::Greatest, &[1, 3, 2], Some(3)),
     (Take::Sum, &[3, 1, 2], Some(6)),
     (Take::First, &[2, 1, 3], Some(2)),
     (Take::Greatest, &[3, 0, 2], Some(0)),
-    (Take::Sum, &[MOST, MOST], None),
-    (Take::Least, &[MOST, MOST], Some(MOST)),
+    (Take::Sum, &[MAX_COUNT, MAX_COUNT], None),
+    (Take::Least, &[MAX_COUNT, MAX_COUNT], Some(MAX_COUNT)),
 ];
 
 #[test]
@@ -43,12 +43,12 @@ fn intersections(rt: HostRuntime) {
     }
 }
 
-// Counts of a word, what a difference makes of them, and a difference of counts.
+// Counts of a word, the result of a difference, and that of a difference of counts.
 const DIFFERENCES: &[(&[u64], Option<u64>, Option<u64>)] = &[
     (&[1, 0], Some(1), Some(1)),
     (&[3, 1], Some(0), Some(2)),
     (&[3, 1, 2], Some(0), Some(0)),
-    (&[1, MOST, MOST], Some(0), Some(0)),
+    (&[1, MAX_COUNT, MAX_COUNT], Some(0), Some(0)),
     (&[0, 2], Some(0), Some(0)),
 ];
 

@@ -26,7 +26,7 @@ const OF_REPORTS: &[(ReportFault, &str)] = &[
     (ReportFault::Memory, "no memory"),
 ];
 
-// What is wrong with the reads is told as their reader tells it.
+// A fault of the reads is displayed as their reader displays it.
 const OF_SELECTIONS: &[(SelectFault, &str)] = &[
     (
         SelectFault::Reads(FastxFault::BadBase(4)),

@@ -24,7 +24,7 @@ fn ready<C: Counts>(rt: &impl Abort, table: &mut C, key: u64) -> Result<(), Tabl
     table.ready(key)
 }
 
-// Stores the keys from the first up to the last, which is left out.
+// Stores the keys from the first up to before the last.
 fn ready_all<C: Counts>(
     rt: &impl Abort,
     table: &mut C,
@@ -53,7 +53,7 @@ fn count<C: Counts>(rt: &impl Abort, table: &mut C, key: u64) -> Result<u64, Tab
     table.count(key)
 }
 
-// Takes one away from the key's count, where that is at least 1: what is left.
+// Decreases the key's count, if it is at least 1, and returns the rest.
 fn uncount<C: Counts>(rt: &impl Abort, table: &mut C, key: u64) -> u64 {
     assert_key(rt, table, key);
     if table.get(key) > 0 {
@@ -69,7 +69,7 @@ fn count_each<C: Counts>(rt: &impl Abort, table: &mut C, keys: &[u64]) -> Result
     Ok(())
 }
 
-// Counts the key so many times.
+// Counts the key `times` times.
 fn count_times<C: Counts>(
     rt: &impl Abort,
     table: &mut C,
@@ -94,7 +94,7 @@ fn assert_counts<C: Counts>(rt: &impl Abort, table: &C, rows: &[(u64, u64)]) {
     }
 }
 
-// Asserts that each key from the first up to the last, which is left out, has the count 0.
+// Asserts that each key from the first up to before the last has the count 0.
 fn assert_uncounted<C: Counts>(rt: &impl Abort, table: &C, first: u64, last: u64) {
     for key in first..last {
         assert_same(rt, key, &count_of(rt, table, key), &0);
@@ -107,7 +107,7 @@ fn sorted_rows<C: Counts>(alloc: Global, table: &C) -> Result<Vec<(u64, u64)>, A
     Ok(rows)
 }
 
-// Asserts that the table has these rows and no others. They are given in rising order.
+// Asserts that the table has these rows, in ascending order, and no others.
 fn assert_rows<C: Counts>(
     rt: &impl Abort,
     alloc: Global,
@@ -173,14 +173,14 @@ fn assert_counted<C: Counts>(
     Ok(())
 }
 
-// Takes one away from each key in turn, and asserts that so much is left.
+// Decreases the count of each key in turn, and asserts that these counts are left.
 fn assert_taken<C: Counts>(rt: &impl Abort, table: &mut C, rows: &[(u64, u64)]) {
     for (key, left) in rows {
         assert_same(rt, *key, &uncount(rt, table, *key), left);
     }
 }
 
-// Counts two keys of 3 bits from an empty table on, takes some away, and counts one again.
+// Counts two keys of 3 bits in a new table, takes some counts away, and counts one again.
 fn counts_and_takes_away<C: Counts>(
     rt: &impl Abort,
     alloc: Global,
@@ -193,7 +193,7 @@ fn counts_and_takes_away<C: Counts>(
     Ok(assert_rows(rt, alloc, table, &[(3, 1), (5, 2)])?)
 }
 
-// A key from whose count all was taken away is stored still, so that the map for two keys takes no third one.
+// A key whose count was taken away is still stored, so the map for two keys refuses a third.
 #[test]
 fn each_type_counts_and_takes_away(rt: HostRuntime) -> Result<(), Fail> {
     let alloc = rt.alloc();
@@ -231,7 +231,7 @@ fn count_home(rt: &impl Abort, table: &mut QuotientTable) -> Result<(), TableFau
     Ok(())
 }
 
-// Asserts that the first so many keys of one home were counted once each, and the next one not at all.
+// Asserts that the first `count` keys of one home were counted once each, and the next one not at all.
 fn assert_home(rt: &impl Abort, table: &QuotientTable, count: u8) {
     for number in 0..count {
         let key = key_of_one_home(number);
@@ -246,7 +246,7 @@ fn find(rt: &impl Abort, table: &QuotientTable, key: u64) -> Option<u64> {
     table.find(key, &mut Steps::zero())
 }
 
-// Asserts that the first 63 keys of one home stand at its places, one after another.
+// Asserts that the first 63 keys of one home are at its places, in order.
 fn assert_places(rt: &impl Abort, table: &QuotientTable) {
     let mut place = 5u64;
     let mut step = 0u64;
@@ -325,7 +325,7 @@ fn with_a_slot_for_each_key_each_stands_at_its_home(rt: HostRuntime) -> Result<(
     Ok(())
 }
 
-// Asserts that these keys stand in these parts.
+// Asserts that these keys are in these parts.
 fn assert_parts<C: Counts>(rt: &impl Abort, table: &C, rows: &[(u64, u32)]) {
     for (key, part) in rows {
         assert_key(rt, table, *key);
@@ -361,7 +361,7 @@ fn the_longest_remainder_is_kept(rt: HostRuntime) -> Result<(), Fail> {
     Ok(())
 }
 
-// Counts three keys: so often, once more and twice more.
+// Counts three keys: `most` times, once more and twice more.
 fn count_three_keys(rt: &impl Abort, table: &mut QuotientTable, most: u64) -> Result<(), TableFault>
     requires { most ≤ 100 }
 {
@@ -394,7 +394,7 @@ fn counts_at_the_carry(
     Ok(())
 }
 
-// 58 + log - 62 low bits of a count stand in a slot's word.
+// A slot has 58 + log - 62 low bits of a count.
 #[test]
 fn counts_outgrow_their_slots(rt: HostRuntime) -> Result<(), Fail> {
     let alloc = rt.alloc();
@@ -405,7 +405,7 @@ fn counts_outgrow_their_slots(rt: HostRuntime) -> Result<(), Fail> {
     Ok(())
 }
 
-// Counts two keys of 62 bits in a table of 2^log slots, and takes away again, up and down past 2, 3, 4 and 5.
+// Counts two keys of 62 bits in a table of 2^log slots, and takes counts away again, up and down past 2, 3, 4 and 5.
 fn carries_and_borrows(rt: &impl Abort, alloc: Global, log: u32) -> Result<(), Fail>
     requires log { 4 ≤ log }
     requires few_slots { log ≤ 40 }
@@ -435,7 +435,7 @@ fn carries_and_borrows(rt: &impl Abort, alloc: Global, log: u32) -> Result<(), F
     Ok(())
 }
 
-// Of a count none, 1 and 2 low bits stand in a slot's word.
+// A slot has 0, 1 and 2 low bits of a count.
 #[test]
 fn counts_pass_their_slots_up_and_down(rt: HostRuntime) -> Result<(), Fail> {
     let alloc = rt.alloc();
@@ -445,7 +445,7 @@ fn counts_pass_their_slots_up_and_down(rt: HostRuntime) -> Result<(), Fail> {
     Ok(())
 }
 
-// Asserts that a table has 2^log slots, and the longest key so often.
+// Asserts that a table has 2^log slots, and the longest key this count.
 fn assert_longest(rt: &impl Abort, table: &QuotientTable, log: u32, count: u64) {
     assert_same(rt, "log", &table.log(), &log);
     assert_same(rt, LONGEST, &count_of(rt, table, LONGEST), &count);
@@ -472,7 +472,7 @@ fn a_growth_keeps_counts_that_outgrew_their_slots(rt: HostRuntime) -> Result<(),
     Ok(())
 }
 
-// Asserts that a map for two keys refuses a third so, and keeps the others.
+// Asserts that a map for two keys refuses a third with this fault, and keeps the others.
 fn assert_refusal(rt: &impl Abort, alloc: Global, refusal: TableFault) -> Result<(), TableFault> {
     let mut table = LimitedCounts::new(alloc, 16, 2, refusal);
     count_each(rt, &mut table, &[3, 7])?;
@@ -491,7 +491,7 @@ fn a_limited_map_answers_as_chosen(rt: HostRuntime) -> Result<(), Fail> {
     Ok(())
 }
 
-// Stores the next key of one home. Where that is refused, asserts that the table is as it was, and stores it once more.
+// Stores the next key of one home. If that is refused, asserts that the table is unchanged, and stores it once more.
 fn ready_again(rt: &impl Abort, table: &mut QuotientTable, number: u8) -> Result<(), TableFault> {
     let before = table.log();
     let key = key_of_one_home(number);
@@ -516,7 +516,7 @@ fn ready_and_count(
     assert_counted(rt, table, &[(key, 1)])
 }
 
-// Counts the next key of one home. Where that is refused, asserts that the table is as it was, and counts it once more.
+// Counts the next key of one home. If that is refused, asserts that the table is unchanged, and counts it once more.
 fn count_again(rt: &impl Abort, table: &mut QuotientTable, number: u8) -> Result<u64, TableFault> {
     let before = table.log();
     let key = key_of_one_home(number);
@@ -547,7 +547,7 @@ fn count_home_again(rt: &impl Abort, table: &mut QuotientTable) -> Result<(), Ta
     Ok(())
 }
 
-// An empty table of 16 slots, for which memory is asked for once more where it is refused.
+// An empty table of 16 slots, for which memory is asked for once more if it is refused.
 fn table_of_16_slots(alloc: Global) -> Result<QuotientTable, AllocError> {
     match QuotientTable::new(alloc, 16, 4, 16) {
         Ok(table) => Ok(table),
@@ -555,7 +555,7 @@ fn table_of_16_slots(alloc: Global) -> Result<QuotientTable, AllocError> {
     }
 }
 
-// Where a growth is refused the counts stay, and the next call finds memory again.
+// If a growth is refused the counts stay, and the next call finds memory again.
 #[test]
 fn a_refused_growth_leaves_the_table(rt: HostRuntime) -> Result<(), Fail> {
     let alloc = rt.alloc();
@@ -568,7 +568,7 @@ fn a_refused_growth_leaves_the_table(rt: HostRuntime) -> Result<(), Fail> {
     Ok(())
 }
 
-// Does one thing to both maps, which a drawn number chooses, and asserts that they answer alike.
+// Does to both maps what a drawn number chooses, and asserts that they return the same.
 fn do_alike(
     rt: &impl Abort,
     plain: &mut PlainCounts,
@@ -613,7 +613,7 @@ fn count_in_both(
     assert_counted(rt, table, &[(key, told)])
 }
 
-// Does many drawn things to both maps, and asserts that they answer alike.
+// Does many drawn operations on both maps, and asserts that they return the same.
 fn do_all_alike(
     rt: &impl Abort,
     plain: &mut PlainCounts,

@@ -29,7 +29,7 @@ fn assert_key<C: Counts>(rt: &impl Abort, table: &C, key: u64)
     assert!(rt; key >> bits == 0);
 }
 
-// Counts the key so many times.
+// Counts the key `times` times.
 fn count_times<C: Counts>(
     rt: &impl Abort,
     table: &mut C,
@@ -44,14 +44,14 @@ fn count_times<C: Counts>(
     Ok(())
 }
 
-// Takes one away from the key's count.
+// Decreases the key's count by one.
 fn uncount<C: Counts>(rt: &impl Abort, table: &mut C, key: u64) {
     assert_key(rt, table, key);
     assert!(rt; table.get(key) > 0);
     table.uncount(key);
 }
 
-// Counts each key as often as it says.
+// Counts each key as often as its row has it.
 fn count_all<C: Counts>(rt: &impl Abort, table: &mut C) -> Result<(), TableFault> {
     for (key, times) in TIMES {
         count_times(rt, table, key, times)?;
@@ -76,7 +76,7 @@ fn store_more<C: Counts>(rt: &impl Abort, table: &mut C) -> Result<(), TableFaul
     Ok(())
 }
 
-// Takes one away from each count, and counts it again.
+// Decreases each count by one, and counts it again.
 fn count_back<C: Counts>(rt: &impl Abort, table: &mut C) -> Result<(), TableFault> {
     for (key, times) in TIMES {
         uncount(rt, table, key);

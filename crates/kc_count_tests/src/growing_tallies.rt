@@ -42,7 +42,7 @@ fn a_tally_row_by_row(rt: HostRuntime) -> Result<(), Fail> {
     Ok(())
 }
 
-// Puts a row of the next word behind the others, of which there are so many.
+// Appends a row of the next word to the others.
 fn push_next<H: Abort>(rt: &H, rows: &mut GrowingRows, word: u64) -> Result<(), AllocError> {
     assert!(rt; word < 1 << 62);
     rows.push(Row { word, count: 1 })

@@ -1,4 +1,4 @@
-//! Small matrices by hand, seeds against another program, and every number got back.
+//! Small matrices by hand, seeds compared with another program, and numbers that are mapped back.
 ghost use Rattle.std.specs.Prelude.{◌≡◌, length};
 
 use crate::count_assertions::assert_same;
@@ -47,7 +47,7 @@ fn a_matrix_is_its_first_columns(rt: HostRuntime) -> Result<(), Fail> {
     Ok(())
 }
 
-// Asserts that the matrix maps the number so, and that its tables do.
+// Asserts that the matrix maps the number to this product, and that its tables do.
 fn assert_product<H: Abort>(rt: &H, matrix: &Matrix, tables: &MatrixTables, x: u64, product: u64) {
     assert!(rt; tables.matrix() == *matrix);
     let bits = matrix.bits();
@@ -56,7 +56,7 @@ fn assert_product<H: Abort>(rt: &H, matrix: &Matrix, tables: &MatrixTables, x: u
     assert_same(rt, x, &tables.apply(x), &product);
 }
 
-// Numbers, and what the matrix of the columns 1 and 3 makes of them.
+// Numbers, and their products with the matrix of the columns 1 and 3.
 const PRODUCTS: &[(u64, u64)] = &[(0, 0), (1, 1), (2, 3), (3, 2)];
 
 #[test]
@@ -122,7 +122,7 @@ const SEEDED: &[(u32, u64, u64, u64)] = &[
     (8, u64::MAX, 175, 84),
 ];
 
-// Asserts that the hash of a seed maps 1 and the greatest number so.
+// Asserts that the hash of a seed maps 1 and the greatest number to these.
 fn assert_seeded<H: Abort>(rt: &H, bits: u32, seed: u64, first: u64, all: u64) {
     assert!(rt; bits >= 1 && bits <= 62);
     let hash = Hash::seeded(bits, seed);
@@ -140,7 +140,7 @@ fn a_seed_gives_the_first_invertible_matrix(rt: HostRuntime) {
     }
 }
 
-// Asserts that a number is got back, and that the tables do the same.
+// Asserts that a number is mapped back, and that the tables do the same.
 fn assert_got_back<H: Abort>(
     rt: &H,
     hash: &Hash,
@@ -159,7 +159,7 @@ fn assert_got_back<H: Abort>(
     assert!(rt; back.apply(y) == x, "tables back at {bits} bits");
 }
 
-// Asserts that a seeded hash of so many bits gives back 0, 1, the greatest number and a thousand others.
+// Asserts that a seeded hash of so many bits maps 0, 1, the greatest number and a thousand others back.
 fn assert_one_to_one<H: Abort>(rt: &H, bits: u32, numbers: &mut SplitMix64) {
     assert!(rt; bits >= 1 && bits <= 62);
     let hash = Hash::seeded(bits, 1);

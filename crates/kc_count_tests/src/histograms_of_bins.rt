@@ -1,4 +1,4 @@
-//! Histograms that are written from the bins of a tally alone.
+//! Histograms that are written only from the bins of a tally.
 use crate::count_assertions::{assert_items, assert_same};
 use crate::report_rows::{HISTOGRAMS, tally_of_three};
 use kc_io::ToVec;
@@ -10,7 +10,7 @@ use std::test::Fail;
 // Asserts that the histogram up to this count, from the tally's bins alone, is this text.
 fn assert_histogram<H: Abort + AllocGlobal>(rt: &H, tally: &Tally, high: u64, want: &[u8]) {
     assert!(rt; 1 <= high && high <= 10_000);
-    // for the proof: what is known of the number of rows
+    // for the proof: facts about the number of rows
     let _rows = tally.row_count();
     let mut sink = ToVec::new(Vec::new(rt.alloc()));
     let outcome = write_histo_of_bins(&mut sink, tally.histogram(), high);

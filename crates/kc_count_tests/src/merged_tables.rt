@@ -1,4 +1,4 @@
-//! Tables put together.
+//! The sums of tables.
 ghost use Rattle.std.specs.Prelude.{IfSome};
 ghost use Rattle.kc_report.specs.Table.{IsOrigin, MaySay};
 
@@ -9,14 +9,14 @@ use kc_tally::Tally;
 use std::alloc::Global;
 use std::process::Abort;
 
-// The text of both tables together, each of which has at most 100 bytes.
+// The text of the sum of both tables, each of which has at most 100 bytes.
 fn merged_text(alloc: Global, first: &[u8], second: &[u8]) -> Result<Vec<u8>, ReportFault> {
     let one = read_table(alloc, &mut FromBytes::new(first), 100)?;
     let two = read_table(alloc, &mut FromBytes::new(second), 100)?;
     text_of_both(alloc, &one, &two)
 }
 
-// The text of both together.
+// The text of their sum.
 fn text_of_both(alloc: Global, one: &Read, two: &Read) -> Result<Vec<u8>, ReportFault>
     requires one { MaySay one.now.1 }
     requires two { MaySay two.now.1 }
@@ -53,9 +53,9 @@ const NONE: &[u8] = b"KCT 2 3 s a 33 0\nEND 0 0\n";
 
 const BOTH: &[u8] = b"KCT 1 3 s\nACG 2\nCGT 1\nGTA 1\nEND 3 4\n";
 
-const MOST: &[u8] = b"KCT 1 3 s\nACG 4611686018427387904\nEND 1 4611686018427387904\n";
+const WITH_MAX_COUNT: &[u8] = b"KCT 1 3 s\nACG 4611686018427387904\nEND 1 4611686018427387904\n";
 
-// Two tables, and what they are together.
+// Two tables, and their sum.
 const MERGED: &[(&[u8], &[u8], &[u8])] = &[
     (
         ACGTA,
@@ -79,7 +79,7 @@ const MERGED: &[(&[u8], &[u8], &[u8])] = &[
     (
         b"KCT 1 3 s\nACG 4611686018427387903\nEND 1 4611686018427387903\n",
         OLD,
-        MOST,
+        WITH_MAX_COUNT,
     ),
     (
         b"KCT 2 3 s a 33 4611686018427387903\nEND 0 0\n",
@@ -98,7 +98,7 @@ fn tables_together(rt: HostRuntime) -> Result<(), ReportFault> {
     Ok(())
 }
 
-// Two tables, and why they can't be put together.
+// Two tables, and why they can't be added.
 const REFUSED: &[(&[u8], &[u8], ReportFault)] = &[
     (
         ACG,
@@ -121,9 +121,13 @@ const REFUSED: &[(&[u8], &[u8], ReportFault)] = &[
         ReportFault::Unlike,
     ),
     (OLD, b"KCT 1 4 s\nACGT 1\nEND 1 1\n", ReportFault::Unlike),
-    (MOST, MOST, ReportFault::TooLarge),
-    (MOST, OLD, ReportFault::TooLarge),
-    (MOST, b"KCT 1 3 c\nACG 1\nEND 1 1\n", ReportFault::Unlike),
+    (WITH_MAX_COUNT, WITH_MAX_COUNT, ReportFault::TooLarge),
+    (WITH_MAX_COUNT, OLD, ReportFault::TooLarge),
+    (
+        WITH_MAX_COUNT,
+        b"KCT 1 3 c\nACG 1\nEND 1 1\n",
+        ReportFault::Unlike,
+    ),
     (
         b"KCT 2 3 s a 33 4611686018427387904\nEND 0 0\n",
         ACG,
@@ -131,7 +135,7 @@ const REFUSED: &[(&[u8], &[u8], ReportFault)] = &[
     ),
 ];
 
-// Asserts that the tables can't be put together, and why.
+// Asserts that the tables can't be added, and why.
 fn assert_refused<H: Abort + AllocGlobal>(rt: &H, first: &[u8], second: &[u8], want: ReportFault) {
     let fault = merged_text(rt.alloc(), first, second).err();
     assert_same(rt, "a fault", &fault, &Some(want));

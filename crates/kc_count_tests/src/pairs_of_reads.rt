@@ -19,9 +19,9 @@ use std::test::Fail;
 // The table of words of three bases in which ACG and CGT occur twice, and GTA once.
 const TABLE: &[u8] = b"KCT 1 3 s\nACG 2\nCGT 2\nGTA 1\nEND 3 5\n";
 
-// Two texts, how many reads of a pair have to be solid, whether the other pairs are selected, and what is answered:
-// the bytes, the reads, those that are kept, their words and the solid ones. Then what is written of the first reads,
-// of their mates, and of both to one sink.
+// Two texts, how many reads of a pair have to be solid, whether the other pairs are selected, and what is returned: the
+// bytes, the reads, those that are kept, their words and the solid ones. Then what is written of the first reads, of
+// their mates, and of both to one sink.
 #[derive(Clone, Copy)]
 struct Row<'a> {
     first: &'a [u8],
@@ -39,7 +39,7 @@ const FIRST: &[u8] = b">a/1\nACGTA\n>b/1\nACG\n>c/1\nAAA\n>d/1\nTTT\n";
 
 const SECOND: &[u8] = b">a/2\nCGT\n>b/2\nAAA\n>c/2\nACG\n>d/2\nAAA\n";
 
-// What is written where one of them is to be solid.
+// What is written if one of them has to be solid.
 const ANY_FIRSTS: &[u8] = b">a/1\nACGTA\n>b/1\nACG\n>c/1\nAAA\n";
 
 const ANY_MATES: &[u8] = b">a/2\nCGT\n>b/2\nAAA\n>c/2\nACG\n";
@@ -67,7 +67,7 @@ const CHOICES: &[Row<'static>] = &[
         mates: ANY_MATES,
         both: ANY_BOTH,
     },
-    // a pair is turned round, and not its reads
+    // the rule is inverted for pairs, not for their reads
     Row {
         first: FIRST,
         second: SECOND,
@@ -112,7 +112,7 @@ const CHOICES: &[Row<'static>] = &[
     },
 ];
 
-// Two texts of one record each, whose titles are those of mates, and how many bytes they have.
+// Two texts of one record each, with titles of mates, and how many bytes they have.
 const MATES: &[(&[u8], &[u8], u64)] = &[
     (b">a\nACG\n", b">a\nCGT\n", 14),
     (b">a/1\nACG\n", b">a/2\nCGT\n", 18),
@@ -122,14 +122,14 @@ const MATES: &[(&[u8], &[u8], u64)] = &[
     // titles up to the first blank or tab
     (b">a/1 x\nACG\n", b">a/2\ty\nCGT\n", 22),
     (b">i:7 1:N:0\nACG\n", b">i:7 2:N:0\nCGT\n", 30),
-    // the Sequence Read Archive: the number of the record in both, and that of the mate behind it
+    // the Sequence Read Archive: the number of the record in both, and that of the mate after it
     (b">S.1 1 l=3\nACG\n", b">S.1 1 l=3\nCGT\n", 30),
     (b">S.2 2\nACG\n", b">S.2 2\nCGT\n", 22),
     (b">S.1.1 1\nACG\n", b">S.1.2 1\nCGT\n", 26),
     (b">\nACG\n", b">\nCGT\n", 12),
 ];
 
-// Two texts of one record each, whose titles are not.
+// Two texts of one record each, with other titles.
 const STRANGERS: &[(&[u8], &[u8])] = &[
     (b">a/1\nACG\n", b">b/2\nCGT\n"),
     (b">a\nACG\n", b">b\nCGT\n"),
@@ -150,9 +150,9 @@ const MATE: &[u8] = b">a/2\nCGT\n";
 
 const BOTH: &[u8] = b">a/1\nACG\n>a/2\nCGT\n";
 
-// Two texts behind whose first pair, that of `ONE` and `MATE`, this fault comes.
+// Two texts with this fault after their first pair, that of `ONE` and `MATE`.
 const BEHIND_A_PAIR: &[(&[u8], &[u8], PairFault)] = &[
-    // other names, and records behind the last pair
+    // other names, and records after the last pair
     (
         b">a/1\nACG\n>b/1\nACG\n>c/1\nACG\n",
         b">a/2\nCGT\n>c/2\nACG\n",
@@ -184,7 +184,7 @@ const BEHIND_A_PAIR: &[(&[u8], &[u8], PairFault)] = &[
         b">a/2\nCGT\n>b/2\nA@C\n",
         PairFault::Reads(Side::First, FastxFault::BadBase(5)),
     ),
-    // it comes before the want of a mate at the same record
+    // it comes before a missing mate at the same record
     (
         b">a/1\nACG\n>b/1\nACG\n",
         b">a/2\nCGT\n>c/2\nA@C\n",
@@ -200,7 +200,7 @@ const BEHIND_A_PAIR: &[(&[u8], &[u8], PairFault)] = &[
         b">a/2\nCGT\n",
         PairFault::Reads(Side::First, FastxFault::BadBase(4)),
     ),
-    // and behind it at a later one
+    // and after it at a later one
     (
         b">a/1\nACG\n>b/1\nACG\n>c/1\nA@C\n",
         b">a/2\nCGT\n>c/2\nACG\n>d/2\nA@C\n",
@@ -213,7 +213,7 @@ const BEHIND_A_PAIR: &[(&[u8], &[u8], PairFault)] = &[
     ),
 ];
 
-// Two texts whose first records are no pair, since this fault is there.
+// Two texts with this fault in place of their first pair.
 const AT_ONCE: &[(&[u8], &[u8], PairFault)] = &[
     (ONE, b"", PairFault::Unpaired(1)),
     (b"\n", MATE, PairFault::Unpaired(1)),
@@ -305,7 +305,7 @@ fn faults_behind_a_pair(rt: HostRuntime) -> Result<(), Fail> {
     Ok(())
 }
 
-// The row of two texts of which nothing is written, since their first records are refused so.
+// The row of two texts of which nothing is written, since their first records have this fault.
 fn refused_row<'a>(first: &'a [u8], second: &'a [u8], fault: PairFault) -> Row<'a> {
     Row {
         first,
@@ -319,7 +319,7 @@ fn refused_row<'a>(first: &'a [u8], second: &'a [u8], fault: PairFault) -> Row<'
     }
 }
 
-// Asserts what a row says of its texts, where a word is solid from 2 on.
+// Asserts the results of a row for its texts, if a word is solid from 2 on.
 fn assert_row<H: Abort + AllocGlobal>(rt: &H, row: &Row<'_>) -> Result<(), Fail> {
     let tally = table_of(rt.alloc(), TABLE)?;
     let reads = Selection::new(2, 66).with_inverted(row.inverted);
@@ -330,7 +330,7 @@ fn assert_row<H: Abort + AllocGlobal>(rt: &H, row: &Row<'_>) -> Result<(), Fail>
     Ok(())
 }
 
-// Asserts what is answered and written where both reads of a pair go to one sink.
+// Asserts what is returned and written if both reads of a pair go to one sink.
 fn assert_interleaved<H: Abort + AllocGlobal>(
     rt: &H,
     row: &Row<'_>,
@@ -340,12 +340,12 @@ fn assert_interleaved<H: Abort + AllocGlobal>(
 {
     let mut sources = sources_of(row.first, row.second);
     let mut sink = ToVec::new(Vec::new(rt.alloc()));
-    let answer = into_one(rt.alloc(), &mut sources, &mut sink, selection);
+    let answer = pairs_into_one(rt.alloc(), &mut sources, &mut sink, selection);
     assert_same(rt, row.first.len(), &answer, &row.answer);
     assert_items(rt, row.first.len(), sink.as_slice(), row.both);
 }
 
-// Asserts what is answered and written where they go to two.
+// Asserts what is returned and written if they go to two.
 fn assert_apart<H: Abort + AllocGlobal>(rt: &H, row: &Row<'_>, selection: &PairSelection<'_, '_>)
     requires { selection.now.limit ≤ most_bytes }
 {
@@ -354,7 +354,7 @@ fn assert_apart<H: Abort + AllocGlobal>(rt: &H, row: &Row<'_>, selection: &PairS
         first: ToVec::new(Vec::new(rt.alloc())),
         second: ToVec::new(Vec::new(rt.alloc())),
     };
-    let answer = into_two(rt.alloc(), &mut sources, &mut sinks, selection);
+    let answer = pairs_into_two(rt.alloc(), &mut sources, &mut sinks, selection);
     assert_same(rt, row.first.len(), &answer, &row.answer);
     assert_items(rt, row.first.len(), sinks.first.as_slice(), row.firsts);
     assert_items(rt, row.first.len(), sinks.second.as_slice(), row.mates);
@@ -368,8 +368,8 @@ fn sources_of<'a>(first: &'a [u8], second: &'a [u8]) -> Sides<FromBytes<'a>> {
     }
 }
 
-// What is told of pairs that are written to one sink.
-fn into_one<S: Source, W: Sink>(
+// The result for pairs that are written to one sink.
+fn pairs_into_one<S: Source, W: Sink>(
     alloc: Global,
     sources: &mut Sides<S>,
     sink: &mut W,
@@ -381,8 +381,8 @@ fn into_one<S: Source, W: Sink>(
     numbers_of(select_into_one(alloc, first, second, sink, selection))
 }
 
-// What is told of pairs that are written to two sinks.
-fn into_two<S: Source, W: Sink>(
+// The result for pairs that are written to two sinks.
+fn pairs_into_two<S: Source, W: Sink>(
     alloc: Global,
     sources: &mut Sides<S>,
     sinks: &mut Sides<W>,
@@ -407,7 +407,7 @@ fn numbers_of(answer: Result<Selected, PairFault>) -> Result<[u64; 5], PairFault
     ])
 }
 
-// How many bytes each source may give, and what is answered of a text of 9 bytes and one of 11.
+// How many bytes each source may give, and what is returned of a text of 9 bytes and one of 11.
 const LIMITS: &[(u64, Result<[u64; 5], PairFault>)] = &[
     (11, Ok([20, 2, 2, 2, 2])),
     (10, Err(PairFault::Reads(Side::Second, FastxFault::TooLong))),
@@ -426,7 +426,7 @@ fn limits_of_each_source(rt: HostRuntime) -> Result<(), Fail> {
     Ok(())
 }
 
-// Asserts what is answered of both texts, of which each source may give so many bytes.
+// Asserts what is returned for both texts with this limit of each source.
 fn assert_limit<H: Abort + AllocGlobal>(
     rt: &H,
     selector: &Selector<'_>,
@@ -475,7 +475,7 @@ const TWO: Sides<&[u8]> = Sides {
     second: b">a/2\nCGT\n>b/2\nCGT\n",
 };
 
-// Sources of both texts, of which so many reads of each side succeed.
+// Sources of both texts, with so many successful reads of each side.
 fn slow_sources(first: usize, second: usize) -> Sides<FromRead<ByteByByte<'static>>> {
     Sides {
         first: FromRead::new(ByteByByte {
@@ -501,7 +501,7 @@ fn failed_reads_of_either_side(rt: HostRuntime) -> Result<(), Fail> {
     Ok(())
 }
 
-// Asserts that a read of this side fails, where so many of each side succeed, and that whole pairs were written.
+// Asserts that a read of this side fails, if so many of each side succeed, and that whole pairs were written.
 fn assert_read_refused<H: Abort + AllocGlobal>(
     rt: &H,
     selector: &Selector<'_>,
@@ -512,7 +512,7 @@ fn assert_read_refused<H: Abort + AllocGlobal>(
     let refused = Err(PairFault::Reads(side, FastxFault::Read));
     let mut sink = ToVec::new(Vec::new(rt.alloc()));
     let mut sources = slow_sources(reads.0, reads.1);
-    let answer = into_one(rt.alloc(), &mut sources, &mut sink, &selection);
+    let answer = pairs_into_one(rt.alloc(), &mut sources, &mut sink, &selection);
     assert_same(rt, reads.0, &answer, &refused);
     assert_whole(rt, (sink.as_slice(), b""), (BOTH, b""));
     let mut sinks = Sides {
@@ -520,7 +520,7 @@ fn assert_read_refused<H: Abort + AllocGlobal>(
         second: ToVec::new(Vec::new(rt.alloc())),
     };
     let mut sources = slow_sources(reads.0, reads.1);
-    let answer = into_two(rt.alloc(), &mut sources, &mut sinks, &selection);
+    let answer = pairs_into_two(rt.alloc(), &mut sources, &mut sinks, &selection);
     assert_same(rt, reads.0, &answer, &refused);
     let written = (sinks.first.as_slice(), sinks.second.as_slice());
     assert_whole(rt, written, (ONE, MATE));
@@ -540,7 +540,7 @@ type Room = (usize, bool);
 // A room for all that is written.
 const ENOUGH: Room = (100, true);
 
-// What is answered where a read of a pair has to be solid, by whether all was written.
+// What is returned if a read of a pair has to be solid, by whether all was written.
 fn answer_if(is_written: bool) -> Result<[u64; 5], PairFault> {
     if is_written {
         Ok([74, 8, 6, 10, 5])
@@ -558,7 +558,7 @@ fn assert_room<H: Abort + AllocGlobal>(
     let selection = PairSelection::new(selector, PairRule::Any, 1 << 36);
     let mut sources = sources_of(FIRST, SECOND);
     let mut sink = narrow_writer(rt.alloc(), room.0, room.1)?;
-    let answer = into_one(rt.alloc(), &mut sources, &mut sink, &selection);
+    let answer = pairs_into_one(rt.alloc(), &mut sources, &mut sink, &selection);
     let taken = sink.into_inner().bytes;
     let count = room.0.min(ANY_BOTH.len());
     let is_written = count == ANY_BOTH.len() && room.1;
@@ -567,7 +567,7 @@ fn assert_room<H: Abort + AllocGlobal>(
     Ok(())
 }
 
-// The answer of a selection of pairs, and what the writer of the first reads and that of their mates took.
+// The result of a selection of pairs, and what the writer of the first reads and that of their mates took.
 type Taken = (Result<[u64; 5], PairFault>, Vec<u8>, Vec<u8>);
 
 // What two writers with these rooms take.
@@ -583,14 +583,14 @@ fn take_apart(
         first: narrow_writer(alloc, first.0, first.1)?,
         second: narrow_writer(alloc, second.0, second.1)?,
     };
-    let answer = into_two(alloc, &mut sources, &mut sinks, &selection);
+    let answer = pairs_into_two(alloc, &mut sources, &mut sinks, &selection);
     let firsts = sinks.first.into_inner().bytes;
     let mates = sinks.second.into_inner().bytes;
     Ok((answer, firsts, mates))
 }
 
-// Asserts that a writer with this room took what it could of its text, and the other one a front of its own, which is
-// whole where all was written.
+// Asserts that a writer with this room took what it could of its text, and the other one a prefix of its own, which is
+// whole if all was written.
 fn assert_taken<H: Abort>(
     rt: &H,
     room: Room,
@@ -638,7 +638,7 @@ fn writers_without_room(rt: HostRuntime) -> Result<(), Fail> {
     Ok(())
 }
 
-// Run with each growth refused in turn: then it ends as refused, and nothing or a whole pair was written.
+// Run with each growth refused in turn: then it ends with that refusal, and nothing or a whole pair was written.
 #[test]
 fn memory_or_the_pairs(rt: HostRuntime) -> Result<(), AllocError> {
     let tally = read_if_memory(&rt, TABLE)?;
@@ -649,7 +649,7 @@ fn memory_or_the_pairs(rt: HostRuntime) -> Result<(), AllocError> {
         first: narrow_writer(rt.alloc(), 100, true)?,
         second: narrow_writer(rt.alloc(), 100, true)?,
     };
-    let answer = into_two(rt.alloc(), &mut sources, &mut sinks, &selection);
+    let answer = pairs_into_two(rt.alloc(), &mut sources, &mut sinks, &selection);
     let firsts = sinks.first.into_inner().bytes;
     let mates = sinks.second.into_inner().bytes;
     if let Err(fault) = answer {

@@ -20,7 +20,7 @@ fn failure() -> io::Error {
     io::Error::from(io::ErrorKind::Other)
 }
 
-// A reader that gives one byte at a time, and fails once it was read so often.
+// A reader that gives one byte at a time, and fails after `reads` reads.
 #[derive(Drop)]
 pub(crate) struct ByteByByte<'a> {
     pub(crate) left: &'a [u8],
@@ -44,7 +44,7 @@ impl Read for ByteByByte<'_> {
     }
 }
 
-// What a text is read as by single bytes, of which so many reads succeed.
+// The result of reading a text byte by byte, with so many successful reads.
 fn read_slowly(alloc: Global, text: &[u8], reads: usize, limit: u64) -> Result<Tally, ReportFault> {
     if limit > 1000 {
         return Err(ReportFault::TableTooLong);
@@ -54,7 +54,7 @@ fn read_slowly(alloc: Global, text: &[u8], reads: usize, limit: u64) -> Result<T
     Ok(tally)
 }
 
-// A writer that has room for so many bytes, takes at most three at a time and then fails. Its vector has that room.
+// A writer with limited room, which takes at most three bytes at a time and then fails. Its vector has that room.
 #[derive(Drop)]
 pub(crate) struct Narrow {
     pub(crate) bytes: Vec<u8>,
@@ -140,7 +140,7 @@ struct Writing<'a> {
     taken: &'a [u8],
 }
 
-// Asserts that a report is written so.
+// Asserts that a report is written like this.
 fn assert_written<H: Abort + AllocGlobal>(rt: &H, writing: &Writing<'_>) -> Result<(), Fail> {
     let alloc = rt.alloc();
     let (report, room) = (writing.report, writing.room);
@@ -191,7 +191,7 @@ fn a_failing_flush_has_the_whole_text(rt: HostRuntime) -> Result<(), Fail> {
     Ok(())
 }
 
-// Asserts that a text that is read by single bytes is refused so.
+// Asserts that a text that is read byte by byte is refused with this fault.
 fn assert_refused<H: Abort + AllocGlobal>(
     rt: &H,
     text: &[u8],
@@ -221,7 +221,7 @@ fn fronts_of_a_table_byte_by_byte(rt: HostRuntime) -> Result<(), ReportFault> {
     Ok(())
 }
 
-// Tables, and texts whose fault stands before their end.
+// Tables, and texts with a fault before their end.
 const TEXTS: &[&[u8]] = &[
     TABLE,
     b"KCT 2 3 c\nACG 2\nGTA 1\nEND 2 3\n",
@@ -229,7 +229,7 @@ const TEXTS: &[&[u8]] = &[
     b"KCT 1 3 c\nACG 2\nEND 2 3\nGTA 1\n",
 ];
 
-// The end is told by one read more than there are bytes.
+// The end takes one read more than there are bytes.
 #[test]
 fn every_failed_read(rt: HostRuntime) -> Result<(), ReportFault> {
     for text in TEXTS {
@@ -245,7 +245,7 @@ fn every_failed_read(rt: HostRuntime) -> Result<(), ReportFault> {
     Ok(())
 }
 
-// How many rows a text gives by single bytes, of which so many reads succeed, and the fault behind them.
+// How many rows a text gives byte by byte, with so many successful reads, and the fault after them.
 fn rows_slowly(
     alloc: Global,
     text: &[u8],
@@ -304,13 +304,13 @@ fn rows_byte_by_byte(rt: HostRuntime) -> Result<(), ReportFault> {
 const GZIPPED: &[u8] = b"\x1f\x8b\x08\x00\x00\x00\x00\x00\x02\x03\xf3v\x0eQ0T0V\
     H\xe6rtvW0\xe2r\x0fqT0\xe4r\xf5sQ0R0\xe6\x02\x00\xa2M<6\x1e\x00\x00\x00";
 
-// The same of a table whose rows do not rise.
+// The same of a table whose rows are not in order.
 const GZIPPED_BAD_ROW: &[u8] = b"\x1f\x8b\x08\x00\x00\x00\x00\x00\x02\x03\xf3v\x0eQ0T0V\
     H\xe6r\x0fqT0\xe4rtvW0\xe2r\xf5sQ0R0\xe6\x02\x00\x96\x9dk\xf9\x1e\x00\x00\x00";
 
 const GZIPS: &[&[u8]] = &[GZIPPED, GZIPPED_BAD_ROW];
 
-// A gzipped table says the rows of its text, and the limit is one of the decompressed bytes.
+// A gzipped table has the rows of its text, and the limit is one of the decompressed bytes.
 #[test]
 fn gzipped_table_byte_by_byte(rt: HostRuntime) -> Result<(), ReportFault> {
     let tally = read_slowly(rt.alloc(), GZIPPED, usize::MAX, 30)?;
@@ -323,7 +323,7 @@ fn gzipped_table_byte_by_byte(rt: HostRuntime) -> Result<(), ReportFault> {
     Ok(())
 }
 
-// Before any fault of the text it is told that the gzip is cut short, or that a read failed.
+// Gzip that is cut short, or a read that failed, is reported before any fault of the text.
 #[test]
 fn fronts_of_a_gzipped_table(rt: HostRuntime) -> Result<(), ReportFault> {
     for gzip in GZIPS {
@@ -339,7 +339,7 @@ fn fronts_of_a_gzipped_table(rt: HostRuntime) -> Result<(), ReportFault> {
     Ok(())
 }
 
-// These have another check sum, another length, another method, or something behind them.
+// These have another check sum, another length, another method, or something after them.
 const BROKEN: &[&[u8]] = &[
     b"\x1f\x8b\x08\x00\x00\x00\x00\x00\x02\x03\xf3v\x0eQ0T0V\
         H\xe6rtvW0\xe2r\x0fqT0\xe4r\xf5sQ0R0\xe6\x02\x00\xa3M<6\x1e\x00\x00\x00",
@@ -360,7 +360,7 @@ fn broken_gzip_of_a_table(rt: HostRuntime) {
     }
 }
 
-// The tally of a table text. Asserts that nothing but want of memory refuses it.
+// The tally of a table text. Asserts that it is refused only for lack of memory.
 pub(crate) fn read_if_memory<H: Abort + AllocGlobal>(
     rt: &H,
     text: &[u8],
@@ -374,7 +374,7 @@ pub(crate) fn read_if_memory<H: Abort + AllocGlobal>(
     }
 }
 
-// Run with each growth refused in turn (tests/memory.sh): then it ends as refused, and nothing was written.
+// Run with each growth refused in turn (tests/memory.sh): then it ends with that refusal, and nothing was written.
 #[test]
 fn memory_or_the_report(rt: HostRuntime) -> Result<(), AllocError> {
     let text = b"KCT 1 2 s\nAA 1\nAC 1\nAG 1\nAT 1\nCA 2\nCC 1\nCG 1\nCT 1\nGA 1\nEND 9 10\n";

@@ -6,8 +6,8 @@ use crate::merged_tables::text_of;
 use kc_io::{FromBytes, ToVec};
 use kc_kmer::K;
 use kc_report::{
-    Dump, GREATEST_HIGH, Origin, ReportFault, TableReading, query, read_numbers, read_table,
-    write_dump, write_histo, write_stats, write_stats_of,
+    Dump, MAX_HIGH, Origin, ReportFault, TableReading, query, read_numbers, read_table, write_dump,
+    write_histo, write_stats, write_stats_of,
 };
 use kc_tally::{Row, Statistics, Tally};
 use std::alloc::{AllocError, Global};
@@ -56,9 +56,9 @@ fn dumps(rt: HostRuntime) -> Result<(), Fail> {
     assert_dump(&rt, &tally, &lines, b">2\nAC\n>1\nCG\n>70000\nGT\n");
     assert_dump(&rt, &tally, &columns, b"AC 2\nCG 1\nGT 70000\n");
     assert_dump(&rt, &tally, &tabs, b"AC\t2\nCG\t1\nGT\t70000\n");
-    assert_dump(&rt, &tally, &tabs.between(1, 2), b"AC\t2\nCG\t1\n");
-    assert_dump(&rt, &tally, &columns.between(2, 69_999), b"AC 2\n");
-    assert_dump(&rt, &tally, &lines.between(3, 2), b"");
+    assert_dump(&rt, &tally, &tabs.with_bounds(1, 2), b"AC\t2\nCG\t1\n");
+    assert_dump(&rt, &tally, &columns.with_bounds(2, 69_999), b"AC 2\n");
+    assert_dump(&rt, &tally, &lines.with_bounds(3, 2), b"");
     Ok(())
 }
 
@@ -102,7 +102,7 @@ pub(crate) const HISTOGRAMS: &[(u64, &[u8])] = &[
 
 // Asserts that the tally's histogram up to this count is this text.
 fn assert_histogram<H: Abort + AllocGlobal>(rt: &H, tally: &Tally, high: u64, want: &[u8]) {
-    assert!(rt; 1 <= high && high <= GREATEST_HIGH);
+    assert!(rt; 1 <= high && high <= MAX_HIGH);
     let mut sink = ToVec::new(Vec::new(rt.alloc()));
     let outcome = write_histo(rt.alloc(), &mut sink, tally, high);
     assert_same(rt, high, &outcome, &Ok(()));
@@ -128,7 +128,7 @@ fn assert_histogram_of_text<H: Abort + AllocGlobal>(
     high: u64,
     want: &[u8],
 ) -> Result<(), ReportFault> {
-    assert!(rt; high <= GREATEST_HIGH);
+    assert!(rt; high <= MAX_HIGH);
     let numbers = read_numbers(rt.alloc(), &mut FromBytes::new(table), 100, high)?;
     let mut sink = ToVec::new(Vec::new(rt.alloc()));
     let outcome = numbers.write_histo(&mut sink);
@@ -161,7 +161,7 @@ pub(crate) fn table_of(alloc: Global, text: &[u8]) -> Result<Tally, ReportFault>
 
 const TABLE: &[u8] = b"KCT 1 3 c\nACG 2\nGTA 1\nEND 2 3\n";
 
-// Asserts that reading a text of at most so many bytes as a table ends in this fault, with its rows and without.
+// Asserts that reading a text of at most so many bytes as a table ends with this fault, with its rows and without.
 fn assert_refused<H: Abort + AllocGlobal>(rt: &H, text: &[u8], limit: u64, want: ReportFault) {
     assert!(rt; limit <= 100);
     let fault = read_table(rt.alloc(), &mut FromBytes::new(text), limit).err();
@@ -200,7 +200,7 @@ fn tables_are_read_as_they_were_written(rt: HostRuntime) -> Result<(), ReportFau
     Ok(())
 }
 
-// Texts that are no tables, and how they are refused.
+// Texts that are no tables, and their faults.
 const NO_TABLES: &[(&[u8], ReportFault)] = &[
     (b"", ReportFault::BadHeader),
     (b"KCT 1 32 s\nEND 0 0\n", ReportFault::BadHeader),
@@ -277,7 +277,7 @@ fn faults_of_tables(rt: HostRuntime) {
     }
 }
 
-// Asserts that each front of a table is refused, for its header where that is not whole.
+// Asserts that each prefix of a table is refused, for its header if that is not whole.
 fn assert_fronts_refused<H: Abort + AllocGlobal>(rt: &H, table: &[u8], header: usize) {
     for count in 0..table.len() {
         let want = if count < header {
@@ -388,7 +388,8 @@ const TEXTS_OF_ROWS: &[(&[u8], &[Row], Result<Option<Row>, ReportFault>)] = &[
     ),
 ];
 
-// Asserts that a text gives these rows and then ends so, however often it is asked, and that all of it was taken.
+// Asserts that a text gives these rows and then ends like this, however often it is asked, and that all of it was
+// taken.
 fn assert_rows<H: Abort + AllocGlobal>(
     rt: &H,
     text: &[u8],
@@ -417,7 +418,7 @@ fn rows_and_then_the_end_or_a_fault(rt: HostRuntime) -> Result<(), ReportFault> 
     Ok(())
 }
 
-// Asserts that the header of a text of at most so many bytes is refused so.
+// Asserts that the header of a text of at most so many bytes has this fault.
 fn assert_header_refused<H: Abort + AllocGlobal>(
     rt: &H,
     text: &[u8],
@@ -448,7 +449,7 @@ pub(crate) fn strings_of(alloc: Global, words: &[&str]) -> Result<Vec<String>, A
     Ok(strings)
 }
 
-// Asserts that a query of these words on the table ends so, having written this.
+// Asserts that a query of these words on the table has this result, and wrote this.
 fn assert_answer<H: Abort + AllocGlobal>(
     rt: &H,
     words: &[&str],
@@ -465,7 +466,7 @@ fn assert_answer<H: Abort + AllocGlobal>(
     Ok(())
 }
 
-// Asked words, and the answers.
+// Asked words, and their lines.
 const ANSWERS: &[(&[&str], &[u8])] = &[
     (&["CGT", "aaa"], b"ACG 2\nAAA 0\n"),
     (&["gta", "GTA", "TAC"], b"GTA 1\nGTA 1\nGTA 1\n"),

@@ -1,10 +1,10 @@
-//! Dumps and tables whose text several threads make.
+//! Dumps and tables with text made by several threads.
 
 use crate::count_assertions::{assert_items, assert_same};
 use crate::report_rows::tally_of_three;
 use kc_io::{FromBytes, ToVec, ToWrite};
 use kc_report::{
-    Dump, GREATEST_COUNT, ReportFault, read_table, write_dump, write_dump_in_parallel,
+    Dump, MAX_COUNT, ReportFault, read_table, write_dump, write_dump_in_parallel,
     write_table_in_parallel,
 };
 use kc_tally::Tally;
@@ -21,7 +21,7 @@ const ROWS: u64 = 66_000;
 // Numbers of threads.
 const THREADS: &[u32] = &[1, 2, 3, 7];
 
-// The count of a word. It is 1 in each third piece of the text, and large where it stands apart from its row.
+// The count of a word. It is 1 in each third piece of the text, and large if it is stored apart from its row.
 fn count_of(word: u64) -> u64 {
     if word % 10_007 == 0 {
         (1 << 50) | word
@@ -32,7 +32,7 @@ fn count_of(word: u64) -> u64 {
     }
 }
 
-// Puts the row of a word behind the text.
+// Appends the row of a word to the text.
 fn push_row(alloc: Global, text: &mut Vec<u8>, word: u64) -> Result<(), AllocError> {
     for i in 0..10u64 {
         text.push(b"ACGT"[(word >> (18 - 2 * i)) as usize & 3])?;
@@ -40,7 +40,7 @@ fn push_row(alloc: Global, text: &mut Vec<u8>, word: u64) -> Result<(), AllocErr
     text.extend_from_slice(format!(in alloc; " {}\n", count_of(word))?.as_bytes())
 }
 
-// The table text of the words, put together row by row.
+// The table text of the words, made row by row.
 fn table_text(alloc: Global) -> Result<Vec<u8>, AllocError> {
     let mut text = Vec::new(alloc);
     text.extend_from_slice(b"KCT 1 10 s\n")?;
@@ -71,7 +71,7 @@ fn a_table_is_the_text_that_it_was_read_from(rt: HostRuntime) -> Result<(), Fail
     Ok(())
 }
 
-// Asserts that the dump by so many threads is that by one.
+// Asserts that the dump by this many threads is that by one.
 fn assert_dump<H: Abort + AllocGlobal + Threads + Sync>(
     rt: &H,
     tally: &Tally,
@@ -96,8 +96,8 @@ fn dumps_are_those_of_one_thread(rt: HostRuntime) -> Result<(), Fail> {
         ..columns
     };
     assert_dump(&rt, &tally, &lines)?;
-    assert_dump(&rt, &tally, &columns.between(2, 100))?;
-    assert_dump(&rt, &tally, &tabs.between(1 << 50, GREATEST_COUNT))?;
+    assert_dump(&rt, &tally, &columns.with_bounds(2, 100))?;
+    assert_dump(&rt, &tally, &tabs.with_bounds(1 << 50, MAX_COUNT))?;
     Ok(())
 }
 
@@ -124,7 +124,7 @@ fn a_dump_of_three_rows(rt: HostRuntime) -> Result<(), Fail> {
     Ok(())
 }
 
-// A writer that takes what it has room for, and fails where it has none. It knows how many bytes each call handed over.
+// A writer that takes what it has room for, and fails if it has none. It knows how many bytes each call handed over.
 #[derive(Drop)]
 struct Full {
     bytes: Vec<u8>,
@@ -155,8 +155,8 @@ impl Write for Full {
     }
 }
 
-// How the writing of the table by so many threads ends, and its writer, which has so much room.
-fn written<H: AllocGlobal + Threads + Sync>(
+// The result of writing the table by this many threads, and its writer with this room.
+fn write_by_threads<H: AllocGlobal + Threads + Sync>(
     rt: &H,
     threads: u32,
     tally: &Tally,
@@ -182,7 +182,7 @@ fn a_writer_that_is_full_has_a_beginning(rt: HostRuntime) -> Result<(), Fail> {
     for threads in THREADS {
         for room in [0usize, 400_000] {
             let room = room.min(text.len());
-            let (outcome, full) = written(&rt, *threads, &tally, room, true);
+            let (outcome, full) = write_by_threads(&rt, *threads, &tally, room, true);
             assert_same(&rt, room, &outcome, &Err(ReportFault::Write));
             assert_items(&rt, room, full.bytes.as_slice(), &text[..room]);
         }
@@ -190,15 +190,15 @@ fn a_writer_that_is_full_has_a_beginning(rt: HostRuntime) -> Result<(), Fail> {
     Ok(())
 }
 
-// Asserts that a flush that fails is heard, and that any number of threads from two on makes the same calls.
+// Asserts that a flush that fails is reported, and that any number of threads from two on makes the same calls.
 #[test]
 fn a_flush_is_heard_and_calls_are_the_same(rt: HostRuntime) -> Result<(), Fail> {
     let text = table_text(rt.alloc())?;
     let tally = tally_of(rt.alloc(), &text)?;
-    let (first, two) = written(&rt, 2, &tally, text.len(), true);
+    let (first, two) = write_by_threads(&rt, 2, &tally, text.len(), true);
     first?;
     for threads in THREADS {
-        let (outcome, full) = written(&rt, *threads, &tally, text.len(), false);
+        let (outcome, full) = write_by_threads(&rt, *threads, &tally, text.len(), false);
         assert_same(&rt, *threads, &outcome, &Err(ReportFault::Write));
         assert_items(&rt, *threads, full.bytes.as_slice(), &text);
         if *threads >= 2 {

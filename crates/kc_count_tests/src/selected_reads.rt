@@ -17,7 +17,7 @@ const TABLE: &[u8] = b"KCT 1 3 s\nACG 2\nCGT 2\nGTA 1\nEND 3 5\n";
 // The same on both strands.
 const BOTH: &[u8] = b"KCT 1 3 c\nACG 4\nGTA 1\nEND 2 5\n";
 
-// A copy of these qualities, where there are any.
+// A copy of these qualities, if there are any.
 fn quals_of(alloc: Global, quals: &[u8]) -> Result<Option<Vec<u8>>, AllocError> {
     if quals.is_empty() {
         return Ok(None);
@@ -25,7 +25,7 @@ fn quals_of(alloc: Global, quals: &[u8]) -> Result<Option<Vec<u8>>, AllocError> 
     Ok(Some(Vec::from_slice(alloc, quals)?))
 }
 
-// A read of these bases, with these qualities where there are any. A test without it fails.
+// A read of these bases, with these qualities if there are any. A test without it fails.
 fn made_read(alloc: Global, bases: &[u8], quals: &[u8]) -> Result<SeqRead, Fail> {
     let quals = quals_of(alloc, quals)?;
     let bases = Vec::from_slice(alloc, bases)?;
@@ -35,7 +35,7 @@ fn made_read(alloc: Global, bases: &[u8], quals: &[u8]) -> Result<SeqRead, Fail>
     }
 }
 
-// A selection of this least count, share and floor, where these are in their limits.
+// A selection of this least count, share and floor, if these are in their limits.
 fn selection_of(least: u64, share: u64, floor: u8) -> Option<Selection> {
     if share > 100 || floor < 33 || floor > 126 {
         return None;
@@ -51,13 +51,13 @@ fn made_selection(least: u64, share: u64, floor: u8) -> Result<Selection, Fail> 
     }
 }
 
-// Asserts whether the read is solid, and that it is selected where it is.
+// Asserts whether the read is solid, and that it is selected if it is.
 fn assert_solid<H: Abort>(rt: &H, selector: &Selector<'_>, read: &SeqRead, want: bool) {
     assert_same(rt, "solid", &selector.is_solid(read), &want);
     assert_same(rt, "selected", &selector.is_selected(read), &want);
 }
 
-// Asserts whether the read is solid by the table, and that the selection of the others has it where it isn't.
+// Asserts whether the read is solid by the table, and that the selection of the others has it if it isn't.
 fn assert_solid_or_other<H: Abort + AllocGlobal>(
     rt: &H,
     tally: &Tally,
@@ -145,8 +145,7 @@ fn assert_read<H: Abort + AllocGlobal>(
     Ok(assert_solid_or_other(rt, &tally, selection, &read, want)?)
 }
 
-// The bases and the qualities of a read, the floor and the share, and whether the read is solid where a word is from 2
-// on.
+// The bases and the qualities of a read, the floor and the share, and whether the read is solid if a word is from 2 on.
 type Floor = (&'static [u8], &'static [u8], u8, u64, bool);
 
 const FLOORS: &[Floor] = &[
@@ -173,7 +172,7 @@ fn reads_with_a_floor(rt: HostRuntime) -> Result<(), Fail> {
     Ok(())
 }
 
-// Asserts what a row says of its read and the table.
+// Asserts the result of a row for its read and the table.
 fn assert_floor<H: Abort + AllocGlobal>(rt: &H, tally: &Tally, row: &Floor) -> Result<(), Fail> {
     let (bases, quals, floor, share, want) = row;
     let selection = made_selection(2, *share, *floor)?;
@@ -181,7 +180,7 @@ fn assert_floor<H: Abort + AllocGlobal>(rt: &H, tally: &Tally, row: &Floor) -> R
     Ok(assert_solid_by(rt, tally, selection, &read, *want)?)
 }
 
-// Asserts whether the read is solid by the table, whose length of words the selector has.
+// Asserts whether the read is solid by the table; the selector has the table's length of words.
 fn assert_solid_by<H: Abort + AllocGlobal>(
     rt: &H,
     tally: &Tally,
@@ -195,7 +194,7 @@ fn assert_solid_by<H: Abort + AllocGlobal>(
     Ok(())
 }
 
-// What is told of one read of three words by a table, and what is written of it.
+// The result for one read of three words by a table, and what is written of it.
 fn select_one_read(alloc: Global, tally: &Tally) -> Result<(Selected, Vec<u8>), Fail> {
     let selection = Selection::new(2, 100).with_floor(b'#');
     let mut source = FromBytes::new(b">r\nACGTA\n");
@@ -205,7 +204,7 @@ fn select_one_read(alloc: Global, tally: &Tally) -> Result<(Selected, Vec<u8>), 
     Ok((selected, sink.into_inner()))
 }
 
-// What is told of one read of which not all words are solid.
+// The result for one read of which not all words are solid.
 const ONE_READ: Result<[u64; 5], SelectFault> = Ok([9, 1, 0, 3, 2]);
 
 #[test]
@@ -247,7 +246,7 @@ fn counts_are_added(rt: HostRuntime) -> Result<(), Fail> {
         words: 20,
         solid: 0,
     };
-    let both = one.and(SelectionCounts::none()).and(other);
+    let both = one.plus(SelectionCounts::none()).plus(other);
     let want = SelectionCounts {
         reads: 4,
         kept: 2,
@@ -271,7 +270,7 @@ fn numbers_of(answer: Result<Selected, SelectFault>) -> Result<[u64; 5], SelectF
     ])
 }
 
-// What is told of a selection of a text, behind which the reads may have met a fault.
+// The result of selecting from a text, which may have a fault of the reads.
 fn answer_of<W: Sink>(
     alloc: Global,
     selector: &Selector<'_>,
@@ -319,7 +318,7 @@ const SELECTED: &[Choice] = &[
         Ok([9, 2, 2, 0, 0]),
         b">s\nAC\n>t\n\n",
     ),
-    // the N leaves ACG and CGA, of which the table has the first
+    // the N leaves ACG and CGA; the table has the first
     (b">n\nACGNCGA\n", 100, false, Ok([11, 1, 0, 2, 1]), b""),
     (
         FASTQ,
@@ -369,7 +368,7 @@ fn reads_that_are_written(rt: HostRuntime) -> Result<(), Fail> {
     Ok(())
 }
 
-// Asserts what a row says of the selection from its text by the table.
+// Asserts the result of a row for the selection from its text by the table.
 fn assert_choice<H: Abort + AllocGlobal>(
     rt: &H,
     tally: &Tally,
@@ -382,7 +381,7 @@ fn assert_choice<H: Abort + AllocGlobal>(
     Ok(())
 }
 
-// Asserts what is answered and what is written of a text.
+// Asserts what is returned and what is written of a text.
 fn assert_selected<H: Abort + AllocGlobal>(
     rt: &H,
     selector: &Selector<'_>,
@@ -397,7 +396,7 @@ fn assert_selected<H: Abort + AllocGlobal>(
     assert_items(rt, text.len(), sink.as_slice(), written);
 }
 
-// A table, a text, the least quality byte, what is answered of it, and the profile of its reads.
+// A table, a text, the least quality byte, what is returned of it, and the profile of its reads.
 type Profiled = (
     &'static [u8],
     &'static [u8],
@@ -424,7 +423,7 @@ const PROFILES: &[Profiled] = &[
         Ok([14, 1, 1, 4, 4]),
         b"r\t0\t2\t2\nr\t2\t4\t0\n",
     ),
-    // no run goes over an N, whose words have no line
+    // no run goes over an N: the words with it have no line
     (
         TABLE,
         b">r\nACGNACG\n",
@@ -484,7 +483,7 @@ fn profiles_of_reads(rt: HostRuntime) -> Result<(), Fail> {
     Ok(())
 }
 
-// Asserts what a row says of the profile of its text.
+// Asserts the result of a row for the profile of its text.
 fn assert_profile<H: Abort + AllocGlobal>(
     rt: &H,
     tally: &Tally,

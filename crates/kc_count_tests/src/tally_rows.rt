@@ -262,7 +262,7 @@ fn memory_or_the_tally(rt: HostRuntime) -> Result<(), Fail> {
 }
 
 // The rows in parts that end at these places, and a last one. An end comes no earlier than the one before it.
-fn in_parts(alloc: Global, rows: &[Row], ends: &[usize]) -> Result<Vec<PackedRows>, AllocError>
+fn divide_rows(alloc: Global, rows: &[Row], ends: &[usize]) -> Result<Vec<PackedRows>, AllocError>
     requires words { All (λ row. row.word < 2 ^ 62) rows.now }
     requires present { All (λ row. 1 ≤ row.count) rows.now }
     ensures { IfOk result (λ parts. flat_map (λ part. part) parts.items ≡ rows.now) }
@@ -291,7 +291,7 @@ fn parted_tally(alloc: Global, k: K, ends: &[usize]) -> Result<Tally, AllocError
         },
         Row { word: 15, count: 1 },
     ];
-    Tally::of_packed(alloc, k, false, in_parts(alloc, &rows, ends)?)
+    Tally::of_packed(alloc, k, false, divide_rows(alloc, &rows, ends)?)
 }
 
 // The same tally, with its length of words.
@@ -326,7 +326,7 @@ pub(crate) fn assert_parted<H: Abort>(rt: &H, tally: &Tally) {
 // The rows of the parted tally, each counted twice.
 const DOUBLED: &[(u64, u64)] = &[(1, 4), (6, 2), (11, 140_000), (15, 2)];
 
-// The sum of tallies, of which a caller knows that they match.
+// The sum of tallies that the caller knows to match.
 fn sum_of<H: Abort + AllocGlobal>(rt: &H, one: &Tally, other: &Tally) -> Result<Tally, AllocError> {
     assert!(rt; one.k().get() == other.k().get() && one.both() == other.both());
     assert!(rt; one.total() + other.total() <= 1 << 62);
@@ -391,7 +391,7 @@ fn spread_tally(alloc: Global, k: K, ends: &[usize]) -> Result<Tally, AllocError
             count: 2,
         },
     ];
-    Tally::of_packed(alloc, k, false, in_parts(alloc, &rows, ends)?)
+    Tally::of_packed(alloc, k, false, divide_rows(alloc, &rows, ends)?)
 }
 
 // The rows of that tally.

@@ -62,7 +62,7 @@ fn assert_packed<H: Abort>(rt: &H, packed: &PackedRows, want: &[(u64, u64)]) {
 fn rows_of_two_lists(rt: HostRuntime) -> Result<(), AllocError> {
     let lists = two_lists(rt.alloc())?;
     assert_same(&rt, "rows", &lists.len(), &4);
-    let packed = lists.sorted(rt.alloc())?;
+    let packed = lists.into_sorted(rt.alloc())?;
     assert_packed(&rt, &packed, SORTED);
     Ok(())
 }
@@ -71,7 +71,7 @@ fn rows_of_two_lists(rt: HostRuntime) -> Result<(), AllocError> {
 fn rows_of_no_list(rt: HostRuntime) -> Result<(), AllocError> {
     let lists = LooseLists::new(rt.alloc(), 0, 1);
     assert_same(&rt, "rows", &lists.len(), &0);
-    let packed = lists.sorted(rt.alloc())?;
+    let packed = lists.into_sorted(rt.alloc())?;
     assert_packed(&rt, &packed, &[]);
     Ok(())
 }

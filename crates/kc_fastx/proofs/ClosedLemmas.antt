@@ -1,4 +1,4 @@
--- The lines of bytes that end with a line feed, and of other bytes behind them.
+-- The lines of bytes that end with a line feed, and of other bytes after them.
 use Rattle.std.proofs.Common.{◌≡◌, ℕ, ◌+◌, ◌<◌, Bool, true, false, List, [], ◌∷◌, ◌++◌, length, get_or, take, drop}
 use Rattle.std.proofs.Common.{map, refl, sym, ap, ◌∙◌, subst, cond, append-nil}
 use Rattle.std.specs.List.{slice_split, onto_first}
@@ -25,7 +25,7 @@ ends_lines-push (a ∷ c ∷ front) b is = ends_lines-push (c ∷ front) b is
 
 -- ---- the parts of bytes that end with a line feed
 
--- they are some, and an empty one; the parts of what comes behind stand in the place of this one
+-- there is at least one, maybe empty; the parts of what follows take the place of this one
 pub record Closes (bytes rest : List ℕ) : Type 0 where
   pub first : List ℕ
   pub more : List (List ℕ)
@@ -88,7 +88,7 @@ lines-closes bytes rest c =
     both ∙ map-append strip_carriage_return parts (without_empty_last (slice_split is_line_feed rest))
     ∙ ap (λ v. v ++ lines rest) (sym alone)
 
--- what comes behind a line feed, or at the front, begins a line
+-- what follows a line feed, or at the front, begins a line
 pub lines-closed : (front rest : List ℕ) → ends_lines front ≡ true → lines (front ++ rest) ≡ lines front ++ lines rest
 lines-closed [] rest h = refl
 lines-closed (b ∷ bs) rest h = lines-closes (b ∷ bs) rest (closes b bs rest h)
@@ -107,8 +107,8 @@ whole_found ended bytes k e lt is =
       closed = at_false ended _ _ e closed;
     }
 
--- What comes behind: the lines of the bytes that are not whole, and of those that come after them, where nothing comes
--- after the end. They are the same behind each rest of the whole lines.
+-- What follows: the lines of the bytes that are not whole, and of those that come after them, if nothing comes after
+-- the end. They are the same after each rest of the whole lines.
 pub lines_behind : (ended : Bool) {bytes whole : List ℕ} (h : HasWhole ended bytes whole)
     (front rest more : List ℕ) → whole ≡ front ++ rest
     → (ended ≡ true → more ≡ []) → lines (rest ++ (h.tail ++ more)) ≡ lines rest ++ lines (h.tail ++ more)
@@ -119,7 +119,7 @@ lines_behind true h front rest more e none =
 lines_behind false h front rest more e none =
     lines-closed rest (h.tail ++ more) (ends_lines-behind front rest (subst (λ v. ends_lines v ≡ true) e h.closed))
 
--- no line comes behind the end
+-- no line follows the end
 pub none_behind : (ended : Bool) (bytes whole : List ℕ) (h : HasWhole ended bytes whole) (more : List ℕ) → ended ≡ true
     → (ended ≡ true → more ≡ []) → lines (h.tail ++ more) ≡ []
 none_behind true bytes whole h more e none = ap lines (ap (λ v. v ++ more) h.closed ∙ none refl)

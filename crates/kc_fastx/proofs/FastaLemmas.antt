@@ -1,4 +1,4 @@
--- The whole FASTA records that were taken so far, and how the next one fails.
+-- The whole FASTA records that were taken so far, and the fault of the next one.
 use Rattle.std.proofs.Common.{◌≡◌, ℕ, ◌<◌, true, List, [], ◌∷◌, ◌++◌, length, refl, ap, subst, ◌∙◌, None, arith}
 use Rattle.std.proofs.Common.{length-append}
 use Rattle.kc_fastx.specs.declared.read_faults.FastxFault.{FastxFault}
@@ -8,12 +8,12 @@ use Rattle.kc_fastx.specs.Records.{BeginsWithSequence, SequenceFails, FirstFault
 use Rattle.kc_fastx.specs.Fasta.{BeginsWithFastaTitle, IsFastaRecord, FastaFails, greater_than}
 use Rattle.kc_fastx.proofs.RecordsLemmas.{TakesLine, TakesTitle, RecordsSoFar, TakesRecord, records_more, line_count-more}
 
--- from `start` on, the lines up to `now` are whole records that say these reads, and `now` is at the next one or at the end
+-- from `start` on, the lines up to `now` are whole records with these reads, and `now` is at the next one or at the end
 pub record FastaSoFar (start now : Cursor) (reads : List Read) : Type 0 where
   pub records : RecordsSoFar IsFastaRecord start now reads
   pub at : ends_or_begins_with greater_than now.left ≡ true
 
--- the line at the front, where the lines stand at a record, is its title
+-- the first of the lines at a record is its title
 pub title_at : (now next : Cursor) (line : Line) → ends_or_begins_with greater_than now.left ≡ true → TakesLine now next line
     → TakesTitle greater_than now next
 title_at now next line at step =
@@ -41,7 +41,7 @@ fasta_more start now after reads bases before taken =
     } in
     record { records = records_more IsFastaRecord start now after reads (read_of bases None) before.records one; at = taken.ends }
 
--- a record whose sequence fails, behind whole records
+-- a record whose sequence fails, after whole records
 pub fasta_fails : (start now next : Cursor) (reads : List Read) (fault : FastxFault) → RecordsSoFar IsFastaRecord start now reads
     → TakesTitle greater_than now next → SequenceFails (line_count next) greater_than next.left fault
     → FirstFault IsFastaRecord (FastaFails (line_count start)) start.left fault
@@ -56,7 +56,7 @@ fasta_fails start now next reads fault before t fails = (
   ),
 )
 
--- one record more
+-- one more record
 pub fasta_push : (start now after : Cursor) (reads : List Read) (read : Read) → FastaSoFar start now reads
     → TakesRecord IsFastaRecord now after read
     → FastaSoFar start after (reads ++ read ∷ [])
@@ -65,7 +65,7 @@ fasta_push start now after reads read before taken = record {
   at = taken.one.ends;
 }
 
--- a record that fails, behind whole records
+-- a record that fails, after whole records
 pub fasta_fails_next : (start now : Cursor) (reads : List Read) → FastaSoFar start now reads → (fault : FastxFault)
     → FastaFails (line_count now) now.left fault
     → FirstFault IsFastaRecord (FastaFails (line_count start)) start.left fault

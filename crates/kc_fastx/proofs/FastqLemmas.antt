@@ -1,4 +1,4 @@
--- The quality lines and the FASTQ records that were taken so far, and what one more makes of them.
+-- The quality lines and the FASTQ records that were taken so far, and the effect of one more.
 use Rattle.std.proofs.Common.{◌≡◌, ℕ, ◌+◌, ◌-◌, ◌<◌, ◌≤◌, true, false, List, [], ◌∷◌, ◌++◌, length, take, refl, sym, ap, subst, ◌∙◌, arith, Some, inl, inr, ⊎_elim, ◌⊎◌}
 use Rattle.std.specs.List.{concat, list_all}
 use Rattle.std.proofs.lemmas.Bool.{cases_lt}
@@ -15,7 +15,7 @@ use Rattle.kc_fastx.specs.Parsing.{IsFastq}
 use Rattle.kc_fastx.specs.Faults.{UnlessMemory}
 use Rattle.kc_fastx.proofs.RecordsLemmas.{TakesLine, TakesTitle, line_count-more, joined-push, both_true, Records-push}
 
--- from `start` on, the lines up to `now` are quality lines that join to at most `need` bytes, every front to fewer
+-- from `start` on, the lines up to `now` are quality lines that join to at most `need` bytes, every prefix to fewer
 pub record QualitySoFar (need : ℕ) (start now : Cursor) (quals : List ℕ) : Type 0 where
   pub taken : List Line
   pub split : start.left ≡ taken ++ now.left
@@ -39,7 +39,7 @@ quality_none need start = record {
 last_or_below : (i n : ℕ) → i < n + 1 → (i < n) ⊎ (n ≡ i)
 last_or_below i n h = ⊎_elim (λ (lt : i < n). inl lt) (λ (le : n ≤ i). inr (omega arith)) (cases_lt i n)
 
--- a front of the lines and one more is a front of the lines, or all of them
+-- a prefix of the lines and one more is a prefix of the lines, or all of them
 front_shorter : (need : ℕ) (taken : List Line) (line : Line) → ((i : ℕ) → i < length taken → length (concat (take i taken)) < need)
     → length (concat taken) < need → (i : ℕ) → i < length (taken ++ line ∷ []) → length (concat (take i (taken ++ line ∷ []))) < need
 front_shorter need taken line below here i h =
@@ -48,7 +48,8 @@ front_shorter need taken line below here i h =
     (λ (e : length taken ≡ i). rw (take_at taken (line ∷ []) i e) here)
     (last_or_below i (length taken) (omega (arith, length-append taken (line ∷ []))))
 
--- behind qualities that are too short, `next` has taken one line of qualities more than `now`, which does not make them too long
+-- after qualities that are too short, `next` has taken one line of qualities more than `now`, which does not make them
+-- too long
 pub record TakesQualityLine (need : ℕ) (quals : List ℕ) (now next : Cursor) (line : Line) : Type 0 where
   pub short : length quals < need
   pub step : TakesLine now next line
@@ -90,11 +91,11 @@ quality_short need start now quals rest before short e = record {
   short = short;
 }
 
--- no quality is too short where some is needed
+-- no quality is too short if some is needed
 pub quality_begun : (need : ℕ) (ls rest : List Line) → 0 < need → ls ≡ rest → HasShortQuality need ls [] rest
 quality_begun need ls rest some e = record { taken = []; split = e; joined = refl; accepted = refl; short = some }
 
--- behind the quality so far, quality that is too short for what is lacking is too short for all
+-- after the quality so far, quality that is too short for what is missing is too short for all
 short_behind : (need : ℕ) (start now : Cursor) (quals : List ℕ) → QualitySoFar need start now quals
     → (more : List ℕ) (rest : List Line) → HasShortQuality (need - length quals) now.left more rest
     → HasShortQuality need start.left (quals ++ more) rest
@@ -141,7 +142,7 @@ quality_behind need start now quals before BrokenGzip h = absurd h
 quality_behind need start now quals before ShortGzip h = absurd h
 quality_behind need start now quals before Memory h = absurd h
 
--- behind quality that is still too short the lines end, or the next one is bad, or too long
+-- after quality that is still too short the lines end, or the next one is bad, or too long
 pub quality_ends : (need : ℕ) (start now : Cursor) (quals : List ℕ) → QualitySoFar need start now quals
     → length quals < need → now.left ≡ [] → QualityFails (line_count start) need start.left (Truncated now.taken)
 quality_ends need start now quals before short e =
@@ -176,7 +177,7 @@ quality_long need start now next quals line before short step good long =
       line_count-more now next line step,
     )
 
--- what a reader's part tells of its fault, another tells of it too
+-- a fault that one part of a reader finds, the other finds, too
 pub unless_memory : (P Q : FastxFault → Type 0) → ((fault : FastxFault) → P fault → Q fault) → (fault : FastxFault) → UnlessMemory P fault → UnlessMemory Q fault
 unless_memory P Q f Memory p = tt
 unless_memory P Q f (BadStart number) p = f (BadStart number) p
@@ -229,13 +230,13 @@ body_fails-quality count body bases after front BrokenGzip h = h
 body_fails-quality count body bases after front ShortGzip h = h
 body_fails-quality count body bases after front Memory h = h
 
--- the lines end behind the sequence
+-- the lines end after the sequence
 pub body_fails-end : (start middle : Cursor) (bases : List ℕ) → BeginsWithSequence plus_sign start.left bases middle.left → middle.left ≡ []
     → line_count middle ≡ line_count start → FastqBodyFails (line_count start) start.left (Truncated middle.taken)
 body_fails-end start middle bases sequence e counted =
     inl (bases, subst (λ rest. BeginsWithSequence plus_sign start.left bases rest) e sequence, omega (arith, ap length e, counted))
 
--- from `start` on stand whole records that say these reads, and `now` is past the blank lines behind them
+-- from `start` on there are whole records with these reads, and `now` is after the blank lines that follow them
 pub record FastqSoFar (start now : Cursor) (reads : List Read) : Type 0 where
   pub here : List Line
   pub so_far : Records IsFastqRecord start.left reads here
@@ -249,7 +250,7 @@ fastq_title : (start now next : Cursor) (reads : List Read) (before : FastqSoFar
     → BeginsWithFastqTitle before.here next.left
 fastq_title start now next reads before t = record { title = t.title; whole = sym before.past_blanks ∙ t.step.left; is_title = t.is_title }
 
--- `past` has taken one record more than `now`: a title, the body that says this read, and the blank lines behind it
+-- `past` has taken one record more than `now`: a title, the body of this read, and the blank lines after it
 pub record TakesFastqRecord (now past : Cursor) (read : Read) : Type 0 where
   pub next : Cursor
   pub title : TakesTitle at_sign now next
@@ -271,11 +272,11 @@ fastq_more start now past reads read before taken =
       counted = taken.counted ∙ line_count-more now taken.next t.title t.step ∙ before.counted;
     }
 
--- no line is left behind the blank ones
+-- no line is left after the blank ones
 pub fastq_all : (start now : Cursor) (reads : List Read) → FastqSoFar start now reads → now.left ≡ [] → IsFastq start.left reads
 fastq_all start now reads before e = record { rest = before.here; records = before.so_far; ends = sym before.past_blanks ∙ e }
 
--- a line that is no title stands where one is due
+-- there is a line that is no title in place of one
 pub fastq_bad_start : (start now next : Cursor) (reads : List Read) (line : Line) → FastqSoFar start now reads → TakesLine now next line
     → begins_with at_sign line ≡ false → FirstFault IsFastqRecord (FastqFails (line_count start)) start.left (BadStart next.taken)
 fastq_bad_start start now next reads line before step is = (
@@ -302,7 +303,7 @@ fastq_fails-body count ls body title BrokenGzip h = (body, title, h)
 fastq_fails-body count ls body title ShortGzip h = (body, title, h)
 fastq_fails-body count ls body title Memory h = (body, title, h)
 
--- a record that fails behind its title
+-- a record that fails after its title
 pub fastq_fails : (start now next : Cursor) (reads : List Read) → FastqSoFar start now reads → TakesTitle at_sign now next
     → (fault : FastxFault) → FastqBodyFails (line_count next) next.left fault
     → FirstFault IsFastqRecord (FastqFails (line_count start)) start.left fault
@@ -314,7 +315,7 @@ fastq_fails start now next reads before t fault fails = (
       (subst (λ count. FastqBodyFails count next.left fault) (line_count-more now next t.title t.step ∙ before.counted) fails),
 )
 
--- a record at the front, whose title was taken, fails behind it
+-- a record at the front, whose title was taken, fails after it
 pub next_fastq_fails : (now next : Cursor) → skip_blanks now.left ≡ now.left → TakesTitle at_sign now next
     → (fault : FastxFault) → FastqBodyFails (line_count next) next.left fault
     → FastqFails (line_count now) now.left fault
@@ -327,7 +328,7 @@ next_fastq_fails now next no_blanks t fault fails =
     }) fault
     (subst (λ count. FastqBodyFails count next.left fault) (line_count-more now next t.title t.step) fails)
 
--- a record at the front fails by the quality behind its title, its sequence and its line with `+`
+-- a record at the front fails by the quality after its title, its sequence and its line with `+`
 pub next_quality_fails : (now next middle after : Cursor) (bases : List ℕ) (plus : Line) → skip_blanks now.left ≡ now.left
     → TakesTitle at_sign now next → BeginsWithSequence plus_sign next.left bases middle.left
     → ends_or_begins_with plus_sign middle.left ≡ true → line_count middle ≡ line_count next
@@ -338,7 +339,7 @@ next_quality_fails now next middle after bases plus no_blanks t sequence at coun
     (has_plus next middle after bases plus sequence at step.left) fault
     (subst (λ count. QualityFails count (length bases) after.left fault) (line_count-more middle after plus step ∙ counted) fails))
 
--- no line is made: blank lines are passed over, and a record's lines are taken
+-- no line is made: blank lines are skipped, and a record's lines are taken
 pub length-skip_blanks : (ls : List Line) → length (skip_blanks ls) ≤ length ls
 length-skip_blanks [] = omega arith
 length-skip_blanks ([] ∷ ls) = omega (arith, length-skip_blanks ls)

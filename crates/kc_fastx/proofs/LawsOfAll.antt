@@ -1,4 +1,4 @@
--- The reads of a list of sources: every list has one answer, and a source more adds its reads or its fault.
+-- The reads of a list of sources: every list has one result, and one more source adds its reads or its fault.
 use Rattle.std.proofs.Common.{◌≡◌, ℕ, ◌+◌, List, [], ◌∷◌, ◌++◌, length, refl, sym, ap, ◌∙◌, arith, Ok, Err, Result}
 use Rattle.std.proofs.lemmas.List.{append_assoc, append-nil}
 use Rattle.kc_fastx.specs.declared.read_faults.FastxFault.{FastxFault}
@@ -7,7 +7,7 @@ use Rattle.kc_fastx.specs.Parsing.{HasReads, HasFault, IsReadsOf, HaveReads, Hav
 use Rattle.kc_fastx.proofs.LawsAnswers.{answer}
 use Rattle.kc_fastx.proofs.LawsPlain.{reads_of, reads_of-answers}
 
--- one source more, with reads
+-- one more source, with reads
 pub HaveReads-push : (sources : List (List ℕ)) (reads : List Read) (bytes : List ℕ) (more : List Read) → HaveReads sources reads → HasReads bytes more
     → HaveReads (sources ++ bytes ∷ []) (reads ++ more)
 HaveReads-push [] reads bytes more e h = (more, [], h, refl, ap (λ rs. rs ++ more) e ∙ sym (append-nil more))
@@ -19,13 +19,13 @@ HaveReads-push (first ∷ sources) reads bytes more k h = (
   ap (λ rs. rs ++ more) k.4 ∙ append_assoc k.0 k.1 more,
 )
 
--- one source more, with a fault, whatever comes behind it
+-- one more source, with a fault, whatever follows it
 pub HaveFault-here : (sources : List (List ℕ)) (reads : List Read) (bytes : List ℕ) (after : List (List ℕ)) (fault : FastxFault) → HaveReads sources reads
     → HasFault bytes fault → HaveFault (sources ++ bytes ∷ after) (length sources + 1) fault
 HaveFault-here sources reads bytes after fault k h =
     record { before = sources; here = bytes; after = after; split = refl; counted = refl; had = reads; earlier = k; fails = h }
 
--- a source with reads in front of others
+-- a source with reads before others
 fault-behind : (bytes : List ℕ) (first : List Read) → HasReads bytes first → (sources : List (List ℕ)) (number : ℕ) (fault : FastxFault) → HaveFault sources number fault
     → HaveFault (bytes ∷ sources) (number + 1) fault
 fault-behind bytes first h sources number fault k = record {

@@ -1,5 +1,5 @@
--- A plain, slow program for the reads of some bytes. Whatever the definition says of some bytes, this program answers: so no
--- input has two answers, and the worked rows are computed by it.
+-- A plain, slow program for the reads of some bytes. It returns whatever the definition gives for the bytes: so no
+-- input has two results, and the program computes the worked rows.
 use Rattle.std.proofs.Common.{◌≡◌, ℕ, zero, suc, ◌+◌, ◌-◌, ◌<◌, ◌≤◌, Bool, true, false, cond, ◌&&◌, List, [], ◌∷◌, ◌++◌, length, take, refl, sym, ap, subst, ◌∙◌, arith, Some, None, Ok, Err, Result, ⊎_elim, leb}
 use Rattle.std.specs.List.{concat, list_all, list_any}
 use Rattle.std.specs.Bool.{MatchBool}
@@ -18,13 +18,13 @@ use Rattle.kc_fastx.proofs.FastqLemmas.{length-skip_blanks, length-body}
 use Rattle.kc_fastx.proofs.LawsAnswers.{answer}
 use Rattle.kc_fastx.specs.Parsing.{IsFastq, IsReadsOf, text_lines}
 
--- the bases, and the lines behind them; or the lines behind a bad one
+-- the bases, and the lines after them; or the lines after a bad one
 unfoldable pub sequence_of : ℕ → List ℕ → List Line → Result (List ℕ × List Line) (List Line)
 sequence_of stop bases [] = Ok (bases, [])
 sequence_of stop bases (line ∷ ls) =
     cond (begins_with stop line) (Ok (bases, line ∷ ls)) (cond (list_all is_sequence_byte line) (sequence_of stop (bases ++ line) ls) (Err ls))
 
--- the qualities, and the lines behind them
+-- the qualities, and the lines after them
 unfoldable pub quality_of : ℕ → ℕ → List ℕ → List Line → Result (List ℕ × List Line) FastxFault
 quality_of count need quals [] = cond (leb need (length quals)) (Ok (quals, [])) (Err (Truncated count))
 quality_of count need quals (line ∷ ls) =
@@ -45,7 +45,7 @@ abbrev pub bad_base : {X : Type 0} → ℕ → Result X (List Line) → Result X
 bad_base count (Ok x) = Ok x
 bad_base count (Err more) = Err (BadBase (count - length more))
 
--- one FASTQ record behind its title, and the lines behind it
+-- one FASTQ record after its title, and the lines after it
 unfoldable pub body_of : ℕ → List Line → Result (Read × List Line) FastxFault
 body_of count body =
     on_ok (λ front. first_of (Err (Truncated count))
@@ -73,7 +73,7 @@ reads_of bytes =
     let ls = text_lines bytes in let count = length (lines bytes) in
     cond (next_begins_with greater_than ls) (fasta_of count (length ls) ls) (fastq_of count (length ls) ls)
 
--- What the definition says, the program answers.
+-- The program returns what the definition gives.
 
 -- one good sequence line
 sequence_of-line : (stop : ℕ) (bases : List ℕ) (line : Line) (ls : List Line) → begins_with stop line ≡ false → list_all is_sequence_byte line ≡ true
@@ -388,12 +388,12 @@ fastq_of-err count (suc fuel) ls fault fits (read ∷ reads, here, h, fails) =
 
 -- both
 
--- whatever either side of a choice says of `answer`, the choice of programs answers
+-- the choice of programs returns whatever either side of a choice gives as `answer`
 cond-MatchBool : {X : Type 0} (b : Bool) (P Q : Type 0) (p q x : X) → (P → p ≡ x) × (Q → q ≡ x) → MatchBool b P Q → cond b p q ≡ x
 cond-MatchBool true P Q p q x sides h = sides.0 h
 cond-MatchBool false P Q p q x sides h = sides.1 h
 
--- the program answers what the definition says
+-- the program returns what the definition gives
 pub reads_of-answers : (bytes : List ℕ) (answer : Result (List Read) FastxFault) → IsReadsOf bytes answer → reads_of bytes ≡ answer
 unfolding reads_of
 reads_of-answers bytes (Ok reads) h =
@@ -406,10 +406,10 @@ reads_of-answers bytes (Err fault) h =
     (fasta_of count (length ls) ls) (fastq_of count (length ls) ls) (Err fault)
     (λ h. fasta_of-err count (length ls) ls fault (omega arith) h, λ h. fastq_of-err count (length ls) ls fault (omega arith) h) h
 
--- no bytes have two answers
+-- no bytes have two results
 pub same_answer : (bytes : List ℕ) (one other : Result (List Read) FastxFault) → IsReadsOf bytes one → IsReadsOf bytes other → one ≡ other
 same_answer bytes one other h k = sym (reads_of-answers bytes one h) ∙ reads_of-answers bytes other k
 
--- what the plain program answers is the answer
+-- the result of the plain program is right
 pub reads_of-is : (bytes : List ℕ) → IsReadsOf bytes (reads_of bytes)
 reads_of-is bytes = let a = answer bytes in subst (IsReadsOf bytes) (sym (reads_of-answers bytes a.0 a.1)) a.1

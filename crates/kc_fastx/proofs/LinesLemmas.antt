@@ -35,7 +35,7 @@ pub without_empty_last-cons : (part : List ℕ) (parts : List (List ℕ)) (first
 without_empty_last-cons [] parts first more e = rw e refl
 without_empty_last-cons (b ∷ bs) parts first more e = rw e refl
 
--- a line feed behind bytes without one ends the first line
+-- a line feed after bytes without one ends the first line
 lines-newline : (front : List ℕ) (b : ℕ) (rest : List ℕ) → All (λ b. is_line_feed b ≡ false) front → is_line_feed b ≡ true
     → lines (front ++ b ∷ rest) ≡ strip_carriage_return front ∷ lines rest
 lines-newline front b rest none is =
@@ -73,7 +73,7 @@ lines-last (b ∷ bs) some none =
 
 -- ---- the first line, and its first byte
 
--- a part that holds a byte is kept
+-- a part that has a byte is kept
 kept_part : (b : ℕ) (first : List ℕ) (more : List (List ℕ)) → (rest : List (List ℕ))
     × (without_empty_last ((b ∷ first) ∷ more) ≡ (b ∷ first) ∷ rest)
 kept_part b first [] = ([], refl)
@@ -135,7 +135,7 @@ strip_begins byte b (c ∷ cs) other =
       | false ↦ refl
     ]
 
--- The first line begins with the byte where the bytes do. The byte is none that ends lines.
+-- The first line begins with the byte if the bytes do. The byte is none that ends lines.
 pub lines-begin : (byte : ℕ) (bytes : List ℕ) → 13 < byte
     → next_begins_with byte (lines bytes) ≡ begins_with byte bytes
 lines-begin byte [] other = refl

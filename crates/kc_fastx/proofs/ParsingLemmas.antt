@@ -1,4 +1,4 @@
--- What a reader of one format says is what the definition says of the bytes.
+-- The result of a reader of one format is what the definition gives for the bytes.
 use Rattle.std.proofs.Common.{◌≡◌, ℕ, Bool, true, false, List, length, MatchBool, subst, inl}
 use Rattle.kc_fastx.specs.declared.read_faults.FastxFault.{FastxFault}
 use Rattle.kc_fastx.specs.Lines.{Cursor, lines, line_count, next_begins_with}
@@ -20,7 +20,7 @@ pub at_false : (b : Bool) (P Q : Type 0) → b ≡ false → Q → MatchBool b P
 at_false true P Q e q = cc
 at_false false P Q e q = q
 
--- where the first line is a FASTA title, a fault of FASTA is that of the bytes
+-- if the first line is a FASTA title, a fault of FASTA is that of the bytes
 pub fault-fasta : (bytes : List ℕ) (start : Cursor) → start.left ≡ text_lines bytes → line_count start ≡ length (lines bytes)
     → next_begins_with greater_than start.left ≡ true → (fault : FastxFault) → FirstFault IsFastaRecord (FastaFails (line_count start)) start.left fault → HasFault bytes fault
 fault-fasta bytes start e counted is fault h =
@@ -28,7 +28,7 @@ fault-fasta bytes start e counted is fault h =
     (subst (λ ls. FirstFault IsFastaRecord (FastaFails (length (lines bytes))) ls fault) e
     (subst (λ count. FirstFault IsFastaRecord (FastaFails count) start.left fault) counted h))
 
--- where the first line is no FASTA title, a fault of FASTQ is that of the bytes
+-- if the first line is no FASTA title, a fault of FASTQ is that of the bytes
 pub fault-fastq : (bytes : List ℕ) (start : Cursor) → start.left ≡ text_lines bytes → line_count start ≡ length (lines bytes)
     → next_begins_with greater_than start.left ≡ false → (fault : FastxFault) → FirstFault IsFastqRecord (FastqFails (line_count start)) start.left fault → HasFault bytes fault
 fault-fastq bytes start e counted is fault h =

@@ -1,4 +1,4 @@
--- The reads that were given so far, and one more, the end, or a fault behind them.
+-- The reads that were given so far, and one more, the end, or a fault after them.
 use Rattle.std.proofs.Common.{◌≡◌, ◌≢◌, ℕ, ◌+◌, ◌-◌, ◌<◌, ◌≤◌, Bool, true, false, List, [], ◌∷◌, ◌++◌, length, take}
 use Rattle.std.proofs.Common.{drop, refl, sym, ap, ◌∙◌, subst, arith, append_assoc, append-nil, length-append, inl}
 use Rattle.std.proofs.Common.{inr, ◌⊎◌, ⊎_elim, Some, None, Ok, Err, MatchBool, Option}
@@ -41,7 +41,7 @@ use Rattle.kc_fastx.proofs.TailLemmas.{fastq_from, fastq_fails_from}
 abbrev NoFastq : List Line → List Read → List Line → Type 0
 NoFastq ls reads rest = ((reads ≡ []) × (rest ≡ ls)) ⊎ SaysFasta ls reads rest
 
--- a line is left behind, or none comes
+-- a line is left after, or none comes
 abbrev pub StaysBehind : List Line → List Line → Type 0
 StaysBehind left tail = (left ≢ []) ⊎ (tail ≡ [])
 
@@ -61,7 +61,7 @@ pub begins_tail : (byte : ℕ) (ls tail : List Line) (line : Line) (more : List 
 begins_tail byte ls tail line more e = ap (λ v. next_begins_with byte (v ++ tail)) e
     ∙ sym (ap (next_begins_with byte) e)
 
--- lines that stand at a FASTA record, or at the end, have no blank ones in front
+-- lines at a FASTA record, or at the end, begin with no blank ones
 at_record : (ls : List Line) (reads : List Read) (w tail : List Line) → SaysFasta ls reads (w ++ tail)
     → skip_blanks w ≡ w
 at_record ls reads w tail f = skip_blanks-at greater_than w (at_front greater_than w tail f.2)
@@ -83,7 +83,7 @@ no_other ls reads w tail f other =
     other.whole other.no_title in
     cc
 
--- a FASTA record comes next, and a line is left behind it, or none comes
+-- a FASTA record comes next, and a line is left after it, or none comes
 pub record FastaComes (w tail : List Line) (read : Read) (left : List Line) : Type 0 where
   pub one : IsFastaRecord (skip_blanks w) read left
   pub stays : StaysBehind left tail
@@ -180,14 +180,14 @@ more_without false ls reads w tail next left h =
     (λ (f : SaysFasta ls reads (w ++ tail)). absurd (no_other ls reads w tail f (other_comes w next.0 left comes)))
     h.before)
 
--- the lines `ls` say these reads and then `w ++ tail`, and the next record of `w` says this read
+-- the lines `ls` have these reads and then `w ++ tail`, and the next record of `w` has this read
 pub record ComesNext (was : Bool) (ls : List Line) (reads : List Read) (w tail : List Line) (next : Read × Bool)
     (left : List Line) : Type 0 where
   pub before : Says was ls reads (w ++ tail)
   pub one : IsNext was (skip_blanks w) (Some next) left
   pub stays : StaysBehind left tail
 
--- one record more
+-- one more record
 pub says_more : (was : Bool) (ls : List Line) (reads : List Read) (w tail : List Line) (next : Read × Bool)
     (left : List Line) → ComesNext was ls reads w tail next left
     → Says next.1 ls (reads ++ next.0 ∷ []) (left ++ tail)
@@ -266,7 +266,7 @@ fails_without false bytes reads w tail count fault h =
     )))
     (λ (f : SaysFasta (lines bytes) reads (w ++ tail)). absurd (no_other (lines bytes) reads w tail f other)) h.before
 
--- the lines say these reads and then `w ++ tail`, `count` of them stand in front of the tail, and the next record of
+-- the lines have these reads and then `w ++ tail`, there are `count` of them before the tail, and the next record of
 -- `w` fails
 pub record FailsNext (was : Bool) (bytes : List ℕ) (reads : List Read) (w tail : List Line) (count : ℕ)
     (fault : FastxFault) : Type 0 where
@@ -275,7 +275,7 @@ pub record FailsNext (was : Bool) (bytes : List ℕ) (reads : List Read) (w tail
   pub fails : NextFails was count (skip_blanks w) fault
   pub remains : Remains fault tail
 
--- a record that fails, behind those that said these reads
+-- a record that fails, after those with these reads
 pub says_fault : (was : Bool) (bytes : List ℕ) (reads : List Read) (w tail : List Line) (count : ℕ) (fault : FastxFault)
     → FailsNext was bytes reads w tail count fault → HasFaultBehind bytes reads fault
 says_fault true bytes reads w tail count fault h =
@@ -330,7 +330,7 @@ lines_here ended bytes whole h more none =
     ap (λ v. lines (v ++ more)) h.split ∙ ap lines (append_assoc whole h.tail more)
     ∙ lines_behind ended h [] whole more refl none
 
--- `after` stands behind a part of the whole lines
+-- `after` follows a part of the whole lines
 pub record Reaches (stand : Stand) (whole : List ℕ) (after : Cursor) : Type 0 where
   pub behind : IsBehind whole after.bytes
   pub left : after.left ≡ lines after.bytes
@@ -340,7 +340,7 @@ drop_front : (front rest : List ℕ) (count : ℕ) → count ≡ length front �
 drop_front [] rest count e = ap (λ n. drop n rest) e
 drop_front (b ∷ front) rest count e = ap (λ n. drop n (b ∷ front ++ rest)) e ∙ drop_front front rest (length front) refl
 
--- how many bytes were passed over, and what is left behind them
+-- how many bytes were skipped, and what is left after them
 pub left_behind : (stand : Stand) (whole : List ℕ) (h : HasWhole stand.ended stand.unread.bytes whole) (after : Cursor)
     → Reaches stand whole after → (count : ℕ)
     → count ≡ length whole - length after.bytes → (count ≤ length stand.unread.bytes) ×
@@ -360,9 +360,9 @@ left_behind stand whole h after r count is =
           ∙ drop_front front (rest ++ h.tail) count is_front,
     )
 
--- ---- stands
+-- ---- states of a reader
 
--- where a reader stands when it has used so many bytes more, up to this line, and read a record of this format
+-- the state of a reader after it used so many more bytes, up to this line, and read a record of this format
 abbrev pub stand_behind : Stand → ℕ → ℕ → Bool → Stand
 stand_behind stand count lines_used q = record {
   unread = record stand.unread { bytes = drop count stand.unread.bytes };
@@ -379,7 +379,7 @@ pub behind_is : {was stand : Stand} {unread : Unread} {taken lines_used : ℕ} (
     ≡ stand_behind stand count lines_used q
 behind_is count q same used line = rw (used, line, same) refl
 
--- one line of the text is known to stay behind, or all bytes were taken
+-- one line of the text is known to stay after, or all bytes were taken
 abbrev pub Sure : Stand → List Line → Type 0
 Sure stand left = (stand.ended ≡ true) ⊎ (left ≢ [])
 
@@ -390,7 +390,7 @@ stays stand whole h left more none sure =
     ⊎_elim (λ (e : stand.ended ≡ true). inr (none_behind stand.ended stand.unread.bytes whole h more e none)) (λ
     (some : left ≢ []). inl some) sure
 
--- the next record of the whole lines was read, `after` stands behind it, and so many bytes are used
+-- the next record of the whole lines was read, `after` follows it, and so many bytes are used
 pub record IsRead (stand : Stand) (whole : List ℕ) (after : Cursor) (next : Read × Bool) (count : ℕ) : Type 0 where
   pub has_whole : HasWhole stand.ended stand.unread.bytes whole
   pub reaches : Reaches stand whole after
@@ -594,7 +594,7 @@ given_fault {stand = stand} given whole left BrokenGzip h fails sure = absurd
 given_fault {stand = stand} given whole left ShortGzip h fails sure = absurd
     (no_next-short stand.is_fastq (stand.lines_used + length (lines whole)) (skip_blanks (lines whole)) fails)
 
--- where that is a fault of the lines, it is behind the records that were given
+-- if that is a fault of the lines, it is after the records that were given
 pub fault_comes : {start now : Seen} {limit : ℕ} {reads : List Read} {stand : Stand}
     → HasGiven start now limit reads stand → (whole : List ℕ) (left : List Line) (fault : FastxFault)
     → HasWhole stand.ended stand.unread.bytes whole
@@ -619,7 +619,7 @@ fault_comes given whole left ShortGzip h fails sure = tt
 
 -- ---- kept faults
 
--- the same stand, and what it keeps of a fault
+-- the same state, and the fault that is kept in it
 abbrev pub with_failed : Stand → Option FastxFault → Stand
 with_failed stand failed = record stand { failed = failed }
 
@@ -631,7 +631,7 @@ met_kept failed met = record {
   met = met.met;
 }
 
--- what a fault says of a reader doesn't rest on what is kept of it
+-- the meaning of a fault for a reader doesn't depend on the fault that is kept
 pub meets_kept : (start now : Seen) (limit : ℕ) (stand : Stand) (fault : FastxFault) (failed : Option FastxFault)
     → MeetsFault start now limit stand fault → MeetsFault start now limit (with_failed stand failed) fault
 meets_kept start now limit stand (BadStart number) failed m = met_kept failed m
@@ -645,7 +645,7 @@ meets_kept start now limit stand Memory failed m = m
 meets_kept start now limit stand BrokenGzip failed m = m
 meets_kept start now limit stand ShortGzip failed m = m
 
--- nor does what it says of the record that it comes with
+-- nor does its meaning for the record that it comes with
 pub comes_kept : (reads : List Read) (stand : Stand) (fault : FastxFault) (failed : Option FastxFault)
     → ComesBehind reads stand fault → ComesBehind reads (with_failed stand failed) fault
 comes_kept reads stand (BadStart number) failed m = m
@@ -764,7 +764,7 @@ takes_line : (b q : Bool) (ls : List Line) (read : Read) (left : List Line)
 takes_line true q ls read left n = fasta_shorter ls read left n.0
 takes_line false q ls read left n = fastq_shorter ls read left n.0
 
--- the lines begin where the reader stands; blank ones are passed over, and then others
+-- the lines at the reader's place; blank ones are skipped, and then others
 pub record ArePassed (stand : Stand) (first blank after : Cursor) : Type 0 where
   pub taken : first.taken ≡ stand.lines_used
   pub counted_blank : line_count blank ≡ line_count first
@@ -827,13 +827,13 @@ filling_none s stand ended failed =
       is_fastq = refl;
     }
 
--- where bytes came behind others that had come, some came in all
+-- if bytes came after others that had come, some came in all
 pub some_came : {old mid new : Seen} {u v w : Unread} (whole : Filled old new u w) (front : Filled old mid u v) (more : Filled mid new v w)
     → 0 < length more.more → 0 < length whole.more
 some_came {u = u} {v} whole front more some =
     omega (arith, some, ap (λ bytes. length bytes) whole.behind, ap (λ bytes. length bytes) front.behind, ap (λ bytes. length bytes) more.behind, length-append u.bytes whole.more, length-append u.bytes front.more, length-append v.bytes more.more)
 
--- a stand with other unused bytes
+-- a state with other unused bytes
 abbrev pub with_unread : Stand → Unread → Bool → Option FastxFault → Stand
 with_unread stand unread ended failed = record {
   unread = unread;
@@ -1016,7 +1016,7 @@ used_within start now limit reads stand given =
     let room = given.taken.room in
     omega (arith, counted, room, length-append given.used stand.unread.bytes)
 
--- the reads that were given so far have no more bases together than bytes may be taken
+-- the reads that were given so far have at most as many bases together as bytes may be taken
 base_count-says : (is_fastq : Bool) (bytes : List ℕ) (reads : List Read) (rest : List Line)
     → Says is_fastq (lines bytes) reads rest → base_count reads ≤ length bytes
 base_count-says true bytes reads rest h = base_count-fastq-front bytes reads rest h.1

@@ -108,7 +108,7 @@ pub base_count-fastq : (bytes : List ℕ) (reads : List Read) → IsFastq (skip_
 base_count-fastq bytes reads h =
     omega (arith, base_count-Records IsFastqRecord takes-fastq (skip_blanks (lines bytes)) reads h.rest h.records, byte_count-skip_blanks (lines bytes), byte_count-lines bytes)
 
--- the same of records behind which other lines come
+-- the same of records after which other lines come
 pub base_count-fasta-front : (bytes : List ℕ) (reads : List Read) (rest : List Line)
     → Records IsFastaRecord (skip_blanks (lines bytes)) reads rest → base_count reads ≤ length bytes
 base_count-fasta-front bytes reads rest h =

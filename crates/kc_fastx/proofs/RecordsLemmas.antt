@@ -1,4 +1,4 @@
--- The sequence lines and the whole records that were taken so far, and what one more makes of them.
+-- The sequence lines and the whole records that were taken so far, and the effect of one more.
 use Rattle.std.proofs.Common.{◌≡◌, ℕ, ◌+◌, ◌<◌, Bool, true, false, ◌&&◌, ◌||◌, List, [], ◌∷◌, ◌++◌, length, refl, sym}
 use Rattle.std.proofs.Common.{ap, subst, ◌∙◌, arith}
 use Rattle.std.specs.List.{concat, list_all, list_any}
@@ -32,7 +32,7 @@ pub record TakesSequenceLine (stop : ℕ) (now next : Cursor) (line : Line) (goo
   pub goes_on : begins_with stop line ≡ false
   pub accepted : list_all is_sequence_byte line ≡ good
 
--- ---- the bytes that were passed over
+-- ---- the bytes that were skipped
 
 pub passes_none : (now : Cursor) → Passes now now
 passes_none now = record { behind = record { front = []; split = refl }; few = omega arith }
@@ -105,12 +105,12 @@ sequence_bad stop start now next bases line before taken =
       line_count-more now next line taken.step ∙ before.counted,
     )
 
--- from `start` on, the lines up to `now` are whole records that say these reads
+-- from `start` on, the lines up to `now` are whole records with these reads
 pub record RecordsSoFar (Record : RecordForm) (start now : Cursor) (reads : List Read) : Type 0 where
   pub so_far : Records Record start.left reads now.left
   pub counted : line_count now ≡ line_count start
 
--- `next` has taken one record more than `now`, which says this read
+-- `next` has taken one record more than `now`, with this read
 pub record TakesRecord (Record : RecordForm) (now next : Cursor) (read : Read) : Type 0 where
   pub one : Record now.left read next.left
   pub counted : line_count next ≡ line_count now
@@ -118,7 +118,7 @@ pub record TakesRecord (Record : RecordForm) (now next : Cursor) (read : Read) :
 pub records_none : (Record : RecordForm) (start : Cursor) → RecordsSoFar Record start start []
 records_none Record start = record { so_far = refl; counted = refl }
 
--- a record behind whole records
+-- a record after whole records
 pub Records-push : (Record : RecordForm) (ls : List Line) (reads : List Read) (middle : List Line) (read : Read) (rest : List Line)
     → Records Record ls reads middle → Record middle read rest → Records Record ls (reads ++ read ∷ []) rest
 Records-push Record ls [] middle read rest before one = (rest, subst (λ ls. Record ls read rest) (sym before) one, refl)

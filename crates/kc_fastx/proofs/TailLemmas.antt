@@ -1,4 +1,4 @@
--- What lines say with other lines behind them.
+-- The records of lines that are followed by others.
 use Rattle.std.proofs.Common.{◌≡◌, ℕ, ◌+◌, ◌<◌, true, false, List, [], ◌∷◌, ◌++◌, length, refl, sym, ap, ◌∙◌, subst, arith}
 use Rattle.std.proofs.Common.{append_assoc, append-nil, length-append}
 use Rattle.std.specs.Prelude.{⊤}
@@ -39,7 +39,7 @@ skip_blanks-at byte [] h = refl
 skip_blanks-at byte ([] ∷ ls) h = absurd (let no : false ≡ true = h in cc)
 skip_blanks-at byte ((b ∷ bs) ∷ ls) h = refl
 
--- a blank line is passed over
+-- a blank line is skipped
 pub skip_blanks-next : (now next : Cursor) (line : Line) → TakesLine now next line → length line < 1
     → skip_blanks next.left ≡ skip_blanks now.left
 skip_blanks-next now next [] step blank = sym (ap skip_blanks step.left)
@@ -168,7 +168,7 @@ short_tail need ls quals rest tail q =
       short = q.short;
     }
 
--- that the lines end is so only where none come behind
+-- that the lines end is so only if none follow
 abbrev pub Remains : FastxFault → List Line → Type 0
 Remains (Truncated number) tail = tail ≡ []
 Remains fault tail = ⊤
@@ -241,7 +241,7 @@ fails_some count ls BrokenGzip h = absurd h.2
 fails_some count ls ShortGzip h = absurd h.2
 fails_some count ls Memory h = absurd h.2
 
--- ---- FASTQ records see no blank lines in front
+-- ---- FASTQ records don't depend on blank lines before them
 
 pub fastq_from : (ls : List Line) (read : Read) (rest : List Line) → IsFastqRecord (skip_blanks ls) read rest
     → IsFastqRecord ls read rest
@@ -275,7 +275,7 @@ fastq_fails_from count ls Memory h = absurd h.2
 
 -- ---- the next FASTQ record
 
--- the next record, and the blank lines behind it that are passed over
+-- the next record, and the blank lines after it that are skipped
 pub record IsPassed (now next past : Cursor) (read : Read) : Type 0 where
   pub one : IsFastqRecord now.left read next.left
   pub counted : line_count next ≡ line_count now
@@ -294,7 +294,7 @@ fastq_push start now next past reads read before passed =
       counted = passed.past_counted ∙ passed.counted ∙ before.counted;
     }
 
--- a record that fails, behind whole records
+-- a record that fails, after whole records
 pub fastq_fails_next : (start now : Cursor) (reads : List Read) → FastqSoFar start now reads → (fault : FastxFault)
     → FastqFails (line_count now) now.left fault
     → FirstFault IsFastqRecord (FastqFails (line_count start)) start.left fault

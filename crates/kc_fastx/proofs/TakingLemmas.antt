@@ -21,7 +21,7 @@ use Rattle.kc_fastx.proofs.ClosedLemmas.{whole_found}
 
 -- ---- the whole lines
 
--- no line feed stands from this place on
+-- there is no line feed from this place on
 abbrev pub NoneFrom : List ℕ → ℕ → Type 0
 NoneFrom bytes from = (i : ℕ) → from ≤ i → i < length bytes → ¬ ((get_or bytes i 0 == line_feed) ≡ true)
 
@@ -39,7 +39,7 @@ longest_none bytes after = record {
   last = λ i from below e. after i from below (ap (λ x. x == line_feed) e);
 }
 
--- ---- an answer that is not sure
+-- ---- a result that is not certain
 
 pub unsure_ends : (is_fastq : Bool) (count : ℕ) (ls left : List Line) (next : Result (Option (Read × Bool)) FastxFault)
     → IfOk next (λ n. IsNext is_fastq ls n left) → IfErr next (UnlessMemory (NextFails is_fastq count ls))
@@ -60,7 +60,7 @@ unsure_ends is_fastq count ls left (Err ShortGzip) ok err none = absurd none
 
 -- ---- a refusal of memory
 
--- a refusal says one fault
+-- a refusal has one fault
 pub err_is : {A : Type 0} (answer : Result A FastxFault) (one other : FastxFault) → answer ≡ Err one
     → answer ≡ Err other → one ≡ other
 err_is answer one other is_one is_other =
@@ -94,7 +94,7 @@ uses_none stand = record { front = []; split = refl; counted = omega arith }
 
 -- ---- what was taken
 
--- bytes were taken behind those that were there, and none was used yet
+-- bytes were taken after those that were there, and none was used yet
 pub record Taking (old now : Stand) : Type 0 where
   pub taken : List ℕ
   pub behind : now.unread.bytes ≡ old.unread.bytes ++ taken
@@ -111,7 +111,7 @@ taking_none stand = record {
   few = inl refl;
 }
 
--- where bytes were taken, the front of those that are there may be used
+-- if bytes were taken, the front of those that are there may be used
 pub takes_few : {old mid new : Stand} → Taking old mid → UsesFront mid new → TakesFew old new
 takes_few t u = record {
   taken = t.taken;

@@ -1,4 +1,4 @@
--- Records with their titles: with other lines behind them, and one more behind those that were given.
+-- Records with their titles: with other lines after them, and one more after those that were given.
 use Rattle.std.proofs.Common.{◌≡◌, ℕ, Bool, true, false, List, [], ◌∷◌, ◌++◌, drop, refl, sym, ap, ◌∙◌, subst, arith}
 use Rattle.std.proofs.Common.{append_assoc, append-nil, MatchBool, Option, Some, Ok}
 use Rattle.std.proofs.lemmas.List.{append_cancel_left, map_push}
@@ -29,7 +29,7 @@ begins_other : (line : Line) → begins_with at_sign line ≡ true → begins_wi
 begins_other [] h = refl
 begins_other (b ∷ bs) h = grind (arith, nat_tests)
 
--- with other lines behind, the next title stays
+-- with other lines after, the next title stays
 title_tail : (w tail : List Line) (line : Line) (body : List Line) → skip_blanks w ≡ line ∷ body
     → title_at (skip_blanks w) ≡ title_at (skip_blanks (w ++ tail))
 title_tail w tail line body some =
@@ -77,7 +77,7 @@ comes_either true w tail next left is one stay =
     comes_fasta w tail next.0 left is (record { one = one.0; stays = stay })
 comes_either false w tail next left is one stay = comes_fastq w tail next.0 left one.0
 
--- the record that comes next, with other lines behind it
+-- the record that comes next, with other lines after it
 record_tail : (was : Bool) (w tail : List Line) (next : Read × Bool) (left : List Line)
     → IsNext was (skip_blanks w) (Some next) left → StaysBehind left tail
     → IsRecord (w ++ tail) (record_of (title_at (skip_blanks w)) next.0) (left ++ tail)
@@ -121,7 +121,7 @@ records_none start limit = record {
   said = λ more none. refl;
 }
 
--- more bytes may stand behind those that were unused
+-- more bytes may follow those that were unused
 pub record IsLonger (before stand : Stand) : Type 0 where
   pub more : List ℕ
   pub came : stand.unread.came ≡ before.unread.came ++ more
@@ -152,7 +152,7 @@ pub longer_kept : {before stand : Stand} (failed : Option FastxFault) → IsLong
     → IsLonger before (with_failed stand failed)
 longer_kept failed l = record { more = l.more; came = l.came; behind = l.behind; ended = l.ended }
 
--- the same records, with what may still come behind more unused bytes
+-- the same records, with what may still follow more unused bytes
 said_longer : {start old : Seen} {limit : ℕ} {records : List Record} {before stand : Stand}
     (h : HasGivenRecords start old limit records before) (l : IsLonger before stand) (more : List ℕ)
     → MayCome stand.ended more
@@ -166,7 +166,7 @@ said_longer {records = records} {before = before} {stand = stand} h l more none 
     (subst (λ v. AreRecords (lines (before.unread.came ++ (l.more ++ more))) records (lines v)) (sym rest)
     (h.said (l.more ++ more) come))
 
--- one record more
+-- one more record
 pub records_more : {start old now : Seen} {limit : ℕ} {records : List Record} {before stand : Stand}
     (h : HasGivenRecords start old limit records before) (l : IsLonger before stand) (new : Stand)
     (title : Line) (read : Read) → TellsRecord stand new title (Ok (Given read))

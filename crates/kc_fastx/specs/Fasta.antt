@@ -9,7 +9,7 @@ use Rattle.kc_fastx.specs.Records.{BeginsWithSequence, SequenceFails}
 abbrev pub greater_than : ℕ
 greater_than = 62
 
--- the lines are a title, whose text is not kept, and then the body
+-- the lines are a title, of which only the first byte matters, and then the body
 pub record BeginsWithFastaTitle (ls body : List Line) : Type 0 where
   pub title : Line
   pub whole : ls ≡ title ∷ body
@@ -23,7 +23,7 @@ pub record IsFastaRecord (ls : List Line) (read : Read) (rest : List Line) : Typ
   pub ends : ends_or_begins_with greater_than rest ≡ true
   pub no_quals : read.quals ≡ None
 
--- how the record at the front of the lines fails, where there are `count` lines in all: by its sequence
+-- the fault of the record at the front of the lines, of `count` lines in all: that of its sequence
 abbrev pub FastaFails : ℕ → List Line → FastxFault → Type 0
 FastaFails count ls fault =
     (body : List Line) × BeginsWithFastaTitle ls body × SequenceFails count greater_than body fault

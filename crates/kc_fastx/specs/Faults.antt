@@ -1,4 +1,4 @@
--- The numbers of the faults (our formats page), what a contract says of them, and the faults of a source.
+-- The numbers of the faults (our formats page), how contracts treat them, and the faults of a source.
 use Rattle.std.specs.Prelude.{ℕ, Bool, true, false, ⊤, Option, Some}
 use Rattle.kc_gzip.specs.declared.unpacked_intakes.TakeFault.{TakeFault}
 use Rattle.kc_gzip.specs.declared.unpacked_intakes.TakeFault.TheVariants as taking
@@ -19,7 +19,7 @@ fault_number Memory = 8
 fault_number BrokenGzip = 71
 fault_number ShortGzip = 72
 
--- the fault is one of the lines
+-- whether the fault is one of the lines
 abbrev pub is_of_lines : FastxFault → Bool
 is_of_lines TooLong = false
 is_of_lines Read = false
@@ -28,17 +28,17 @@ is_of_lines BrokenGzip = false
 is_of_lines ShortGzip = false
 is_of_lines fault = true
 
--- memory was refused, of which nothing more is said, or the fault is one that `Is` tells
+-- the fault is a lack of memory, under no further condition, or `Is` holds for it
 abbrev pub UnlessMemory : (FastxFault → Type 0) → FastxFault → Type 0
 UnlessMemory Is Memory = ⊤
 UnlessMemory Is fault = Is fault
 
--- what a reader keeps after the fault of a record: that of memory isn't kept, since there may be some at the next call
+-- the fault that a reader keeps after that of a record: lack of memory isn't kept, since the next call may have some
 abbrev pub kept_fault : Option FastxFault → FastxFault → Option FastxFault
 kept_fault failed Memory = failed
 kept_fault failed fault = Some fault
 
--- the fault that says why the bytes of a source could not be taken
+-- the fault for each reason why the bytes of a source could not be taken
 abbrev pub taking_fault : TakeFault → FastxFault
 taking_fault taking.TooLong = TooLong
 taking_fault taking.Read = Read

@@ -1,4 +1,4 @@
-//! FASTA records: a line that begins with `>`, and the sequence lines behind it.
+//! FASTA records: a line that begins with `>`, and the sequence lines after it.
 ghost use Rattle.std.specs.Prelude.{◌≡◌, true, [], Err, IfOk, IfErr, OnOk, IfSome, IfNone};
 ghost use Rattle.kc_fastx.specs.Lines.{line_count, ends_or_begins_with, Passes};
 ghost use Rattle.kc_fastx.specs.Records.{Records, FirstFault};
@@ -29,7 +29,7 @@ pub(crate) fn parse_fasta(
     Ok(reads)
 }
 
-// The next record, None where no line is left. Condition: a line that is left begins with `>`.
+// The next record, None if no line is left. Condition: a line that is left begins with `>`.
 pub(crate) fn next_fasta(
     alloc: Global,
     lines: &mut LineCursor<'_>,

@@ -33,7 +33,7 @@ pub(crate) fn parse_fastq(
     Ok(reads)
 }
 
-// The next record, None where no line is left. Condition: a line that is left isn't blank.
+// The next record, None if no line is left. Condition: a line that is left isn't blank.
 pub(crate) fn next_fastq(
     alloc: Global,
     lines: &mut LineCursor<'_>,
@@ -65,8 +65,8 @@ pub(crate) fn next_fastq(
     }))
 }
 
-// Takes quality lines while they are shorter than `need` together, and joins them in `quals`, which is empty and has no
-// more room than bytes are left or are needed.
+// Takes quality lines while they are shorter than `need` together, and joins them in `quals`, which is empty and has
+// room for at most as many bytes as are left or needed.
 fn take_quality(
     mut quals: Vec<u8>,
     lines: &mut LineCursor<'_>,
@@ -95,7 +95,7 @@ fn take_quality(
     Ok(quals)
 }
 
-// Whether all these bytes are qualities. Each is looked at, so that the loop has no exit inside.
+// Whether all these bytes are qualities. Each is looked at, so the loop has no early exit.
 pub(crate) fn are_quality_bytes(bytes: &[u8]) -> bool
     ensures { result ≡ list_all is_quality_byte bytes.now }
 {

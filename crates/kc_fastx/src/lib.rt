@@ -1,11 +1,11 @@
 //! Readers of sequence files: FASTA and Sanger FASTQ, from bytes to a list of reads.
 //!
-//! `parse` answers the reads of bytes in memory, and `read_all` those of a `Source`, up to a limit of bytes. `Reads`
+//! `parse` returns the reads of bytes in memory, and `read_all` those of a `Source`, up to a limit of bytes. `Reads`
 //! gives the reads of a source that it owns one after another; so does `Reading`, which is handed the source at each
-//! call, and which also gives them with their titles. A `SeqRead` has its bases as they stand in the file and, from
-//! FASTQ, a quality for each base. A `FastxFault` says why there are no reads, with its line. What the reads of some
-//! bytes are is defined in `specs/` (`Lines`, `Fasta`, `Fastq`, `Parsing`; `Titles` for reads with their titles;
-//! `Reading` for those that were given so far), and `read_laws` says that any bytes have one answer.
+//! call, and can also give their titles. A `SeqRead` has its bases as in the file and, from FASTQ, a quality for each
+//! base. A `FastxFault` is the reason why there are no reads, with its line. The reads of bytes are defined in `specs/`
+//! (`Lines`, `Fasta`, `Fastq`, `Parsing`; `Titles` for reads with their titles; `Reading` for those that were given so
+//! far), and by `read_laws` every byte string has one result.
 //!
 //! ```ignore
 //! let mut source = FromBytes::new(b"@q\nACGT\n+\nII!I\n");

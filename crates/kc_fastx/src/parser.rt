@@ -13,10 +13,10 @@ use crate::text_lines::LineCursor;
 use kc_io::Source;
 use std::alloc::Global;
 
-/// The reads of FASTA or FASTQ bytes: the first line that isn't blank decides which.
+/// The reads of FASTA or FASTQ bytes: the first line that isn't blank decides between the formats.
 ///
 /// # Errors
-/// The first fault of the bytes, with its line, or `Memory` where a growth was refused.
+/// The first fault of the bytes, with its line, or `Memory` if a growth was refused.
 pub fn parse(alloc: Global, bytes: &[u8]) -> Result<Vec<SeqRead>, FastxFault>
     ensures reads { IfOk result (λ reads. HasReads bytes.now reads.items) }
     ensures fault { IfErr result (UnlessMemory (HasFault bytes.now)) }
@@ -34,13 +34,13 @@ pub fn parse(alloc: Global, bytes: &[u8]) -> Result<Vec<SeqRead>, FastxFault>
     }
 }
 
-/// Takes all bytes of the source, and answers what `parse` answers of them, with their number. It reads at most
-/// `limit + 1` times, and never into an empty slice. Of the bytes it keeps a block and what one record takes.
+/// Takes all bytes of the source, and returns what `parse` returns for them, with their number. It reads at most `limit
+/// + 1` times, and never into an empty slice. It keeps only a block of the bytes and one record.
 ///
 /// # Errors
-/// `TooLong` where the source gave more than `limit` bytes, and `Read` where it failed, whichever the reading met
-/// first; these before any fault of the lines, behind which the source is read to its end. Else the first fault of the
-/// bytes, with its line. `Memory` where a growth was refused.
+/// `TooLong` if the source gave more than `limit` bytes, and `Read` if it failed, whichever came first; these come
+/// before any fault of the lines, after which the source is read to its end. Otherwise the first fault of the bytes,
+/// with its line. `Memory` if a growth was refused.
 pub fn read_all<R: Source>(
     alloc: Global,
     reader: &mut R,

@@ -11,13 +11,13 @@ use thiserror::Error;
 /// Why no reads are given. Lines are numbered from 1.
 #[derive(Clone, Copy, Debug, PartialEq, Eq, Error)]
 pub enum FastxFault {
-    /// A record should begin at this line, and the line begins otherwise.
+    /// This line should begin a record, and doesn't.
     #[error("bad start, line {0}")]
     BadStart(u64),
-    /// This line of a sequence holds a byte that is no letter, `.`, `-` or `*`.
+    /// This line of a sequence has a byte that is no letter, `.`, `-` or `*`.
     #[error("bad base, line {0}")]
     BadBase(u64),
-    /// This line of a quality holds a byte outside 33 to 126.
+    /// This line of a quality has a byte outside 33 to 126.
     #[error("bad quality, line {0}")]
     BadQuality(u64),
     /// With this line the quality is longer than its sequence.
@@ -62,7 +62,7 @@ impl FastxFault {
         }
     }
 
-    // Whether the input itself is wrong, and not its source, its size or the memory at hand.
+    // Whether the input itself is wrong, and not its source, its size or a lack of memory.
     pub(crate) fn is_of_lines(&self) -> bool
         ensures { result ≡ is_of_lines self.now }
     {

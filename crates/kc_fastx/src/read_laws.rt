@@ -6,7 +6,7 @@ ghost use Rattle.kc_fastx.specs.declared.read_faults.FastxFault.TheVariants.{Lon
 ghost use Rattle.kc_fastx.specs.Reads.{Read, read_of};
 ghost use Rattle.kc_fastx.specs.Parsing.{HasReads, HasFault, IsReadsOf, AreReadsOf};
 
-/// Every byte string has an answer, its reads or its first fault, and no byte string has two.
+/// Every byte string has one result, its reads or its first fault, and only one.
 pub fn one_answer()
     ensures some { (bytes : List ℕ) → (answer : Result (List Read) FastxFault) × IsReadsOf bytes answer }
     ensures only { (bytes : List ℕ) (one other : Result (List Read) FastxFault)
@@ -21,7 +21,7 @@ pub fn one_answer_of_all()
         → AreReadsOf sources one → AreReadsOf sources other → one ≡ other }
 {}
 
-/// Worked rows of the definitions. A plain program that answers what they say computes them.
+/// Worked rows of the definitions. A plain program that follows them computes the rows.
 pub fn worked_rows()
     ensures nothing { HasReads (codes "") [] }
     ensures fasta { HasReads (codes ">a\nAC\nGT\r\n>b\n\n>c\nac")

@@ -13,11 +13,10 @@ use kc_io::Source;
 use std::alloc::{AllocError, Global};
 use std::marker::Model;
 
-/// The reads that the bytes of a source say, one after another. It keeps a block of the bytes and what one record
-/// takes, whatever came before.
+/// The reads of a source, one after another. It keeps a block of the bytes and one record, whatever came before.
 ///
-/// Contracts speak of the reads that were given so far: `HasGiven` with none of them stands behind `new`, `next_read`
-/// adds the read that it gives, and where it answers `None` they are all reads of all bytes.
+/// Contracts are about the reads that were given so far: after `new`, `HasGiven` holds with none; `next_read` adds the
+/// read that it gives; and if it returns `None`, they are all reads of all bytes.
 #[derive(Drop)]
 pub struct Reads<S: Source + Drop> {
     alloc: Global,
@@ -34,11 +33,11 @@ impl<S: Source + Drop> Model for Reads<S> {
 }
 
 impl<S: Source + Drop> Reads<S> {
-    /// A reader of the reads of this source, of which at most `limit` bytes are taken. Nothing was taken yet.
-    /// Condition: the limit is at most 2^36.
+    /// A reader of this source, which takes at most `limit` bytes. Nothing is taken yet. Condition: the limit is at
+    /// most 2^36.
     ///
     /// # Errors
-    /// `AllocError` where the block was refused.
+    /// `AllocError` if the block was refused.
     pub fn new(alloc: Global, source: S, limit: u64) -> Result<Reads<S>, AllocError>
         requires { limit ≤ most_bytes }
         ensures stand { IfOk result (λ reads. reads ≡ record { source = S.seen source; stand = first_stand limit }) }
@@ -52,15 +51,15 @@ impl<S: Source + Drop> Reads<S> {
         })
     }
 
-    /// The next read, or none where all bytes were taken and no read is left.
+    /// The next read, or none if all bytes were taken and no read is left.
     ///
     /// # Errors
-    /// The first fault of all bytes, with its line, where the lines that were taken tell it already. `TooLong` where
-    /// the source gave more bytes than the limit, and `Read` where it failed, while more were taken for the next read.
-    /// `Memory` where a growth was refused. The reader keeps its fault: from then on it answers the same, takes nothing
-    /// of the source and stays as it is. One fault is not kept: `Memory` for the text of a record. The reader has given
-    /// the same reads still, and may be asked again. `Memory` for bytes that the source had given already is kept,
-    /// since these bytes are lost.
+    /// The first fault of all bytes, with its line, as soon as the lines that were taken determine it. `TooLong` if the
+    /// source gave more bytes than the limit, and `Read` if it failed, while more were taken for the next read.
+    /// `Memory` if a growth was refused. The reader keeps its fault: from then on it returns the same, takes nothing
+    /// from the source and is unchanged. Only `Memory` for the text of a record is not kept: the reader still has given
+    /// the same reads, and can be called again. `Memory` for bytes that the source had given already is kept, since
+    /// these bytes are lost.
     pub fn next_read(&mut self) -> Result<Option<SeqRead>, FastxFault>
         ensures given { (start : Seen) (limit : ℕ) (reads : List Read)
             → HasGiven start self.old.source limit reads self.old.stand

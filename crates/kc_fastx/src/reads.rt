@@ -1,4 +1,4 @@
-//! What a sequence read is.
+//! Sequence reads.
 ghost use Rattle.std.specs.Prelude.{◌≡◌, ◌↔◌, IsSome, IfSome};
 ghost use Rattle.std.specs.Option.{option_copied, option_map};
 
@@ -6,7 +6,7 @@ use crate::fastq::are_quality_bytes;
 use crate::records::are_sequence_bytes;
 use std::marker::Model;
 
-/// A sequence read: its bases and, where its format has them, one quality byte for each base.
+/// A sequence read: its bases and, if its format has them, one quality byte for each base.
 ///
 /// Its bases are letters, `.`, `-` or `*`, and its qualities are 33 to 126.
 #[derive(Debug, Drop)]
@@ -29,7 +29,7 @@ impl Model for SeqRead {
 impl SeqRead {
     ghost use Rattle.kc_fastx.specs.Reads.{read_of, IsRead};
 
-    /// The read of these bases and qualities, where they are those of a read.
+    /// The read with these bases and qualities, if they can be those of a read.
     pub fn new(bases: Vec<u8>, quals: Option<Vec<u8>>) -> Option<SeqRead>
         ensures lawful { IsSome result ↔ IsRead (read_of bases.items (option_map (λ q. q.items) quals)) }
         ensures value { IfSome result (λ read. read ≡ read_of bases.items (option_map (λ q. q.items) quals)) }
@@ -45,7 +45,7 @@ impl SeqRead {
         }
     }
 
-    /// The bases, as they stand in the file.
+    /// The bases, as in the file.
     pub fn bases(&self) -> &[u8]
         ensures value { result.now ≡ self.now.bases }
         ensures lawful { IsRead self.now }

@@ -1,4 +1,4 @@
-//! The reads that a source says, one after another: of its bytes the reader keeps a block and what a record takes.
+//! The reads of a source, one after another: the reader keeps a block of its bytes and one record.
 ghost use Rattle.std.specs.Prelude.{◌≡◌, ℕ, List, true, false, None, Some, Err, ◌+◌, ◌≤◌, ◌<◌};
 ghost use Rattle.std.specs.Prelude.{length, min, ◌-◌, ◌^◌, IfOk, IfErr, OnOk, OnErr, IfSome, OnSome};
 ghost use Rattle.kc_io.specs.Sources.{Seen};
@@ -23,22 +23,22 @@ use memchr::memrchr;
 use std::alloc::{AllocError, Global};
 use std::marker::Model;
 
-// What the bytes that were taken tell of the next read.
+// What the bytes that were taken determine of the next read.
 #[derive(Drop)]
 pub enum Next {
     Given(SeqRead),
     // All bytes were taken, and no record is left.
     End,
-    // A whole record isn't there yet.
+    // There is no whole record yet.
     Short,
 }
 
 /// A reader of the reads of a source, one after another, which leaves the source with its caller. It keeps a block of
-/// the bytes and what one record takes, whatever came before.
+/// the bytes and one record, whatever came before.
 ///
-/// Contracts speak of the reads that were given so far: `HasGiven` with none of them stands behind `new`, `next_read`
-/// adds the read that it gives, and where it answers `None` they are all reads of all bytes. Each call is handed the
-/// same source, of which nobody else takes bytes meanwhile.
+/// Contracts are about the reads that were given so far: after `new`, `HasGiven` holds with none; `next_read` adds the
+/// read that it gives; and if it returns `None`, they are all reads of all bytes. Each call is handed the same source,
+/// and nobody else takes bytes from it meanwhile.
 #[derive(Drop)]
 pub struct Reading {
     intake: Intake,
@@ -69,11 +69,11 @@ impl Model for Reading {
 }
 
 impl Reading {
-    /// A reader that takes at most `limit` bytes of its source. Nothing was taken yet. Condition: the limit is at most
+    /// A reader that takes at most `limit` bytes of its source. Nothing is taken yet. Condition: the limit is at most
     /// 2^36.
     ///
     /// # Errors
-    /// `AllocError` where the block was refused.
+    /// `AllocError` if the block was refused.
     pub fn new(alloc: Global, limit: u64) -> Result<Reading, AllocError>
         requires { limit ≤ most_bytes }
         ensures { IfOk result (λ reading. reading ≡ first_stand limit) }
@@ -89,16 +89,16 @@ impl Reading {
         })
     }
 
-    /// The next read, or none where all bytes were taken and no read is left. Blocks are taken until a whole record is
-    /// there or the source has told its end.
+    /// The next read, or none if all bytes were taken and no read is left. Blocks are taken until there is a whole
+    /// record or the source has returned its end.
     ///
     /// # Errors
-    /// The first fault of all bytes, with its line, where the lines that were taken tell it already. `TooLong` where
-    /// the source gave more bytes than the limit, and `Read` where it failed, before the next record was whole.
-    /// `Memory` where a growth was refused. The reader keeps its fault: from then on it answers the same, takes nothing
-    /// of the source and stays as it is. One fault is not kept: `Memory` for the text of a record. The reader has given
-    /// the same reads still, and may be asked again. `Memory` for bytes that the source had given already is kept,
-    /// since these bytes are lost.
+    /// The first fault of all bytes, with its line, as soon as the lines that were taken determine it. `TooLong` if the
+    /// source gave more bytes than the limit, and `Read` if it failed, before the next record was whole. `Memory` if a
+    /// growth was refused. The reader keeps its fault: from then on it returns the same, takes nothing from the source
+    /// and is unchanged. Only `Memory` for the text of a record is not kept: the reader still has given the same reads,
+    /// and can be called again. `Memory` for bytes that the source had given already is kept, since these bytes are
+    /// lost.
     pub fn next_read<S: Source>(
         &mut self,
         alloc: Global,
@@ -124,11 +124,11 @@ impl Reading {
         self.next_of(alloc, source, &mut Vec::new(alloc), false)
     }
 
-    /// The next read, as `next_read` gives it, and its title, which takes the place of what stands in `title`: the rest
-    /// of its first line, behind the byte that begins it. Where no read is given, nothing is said of `title`.
+    /// The next read, as `next_read` gives it, and its title, which replaces the contents of `title`: the rest of its
+    /// first line, after the first byte. If no read is given, `title` may have any contents.
     ///
     /// # Errors
-    /// Those of `next_read`; `Memory` also where there was none for the title.
+    /// Those of `next_read`; also `Memory` if there was none for the title.
     pub fn next_titled<S: Source>(
         &mut self,
         alloc: Global,
@@ -155,7 +155,7 @@ impl Reading {
         self.next_of(alloc, source, title, true)
     }
 
-    /// How many bytes were taken. Condition: no fault was kept, as where `next_read` has answered a read or none.
+    /// How many bytes were taken. Condition: no fault is kept, as after `next_read` has returned a read or none.
     pub fn byte_count(&self) -> u64
         requires { self.now.failed ≡ None }
         ensures { result ≡ self.now.used + length self.now.unread.bytes }
@@ -163,16 +163,15 @@ impl Reading {
         self.used + self.intake.as_slice().len() as u64
     }
 
-    /// How many bytes the source has given, compressed as it gave them, or 2^64 - 1 where they are more.
+    /// How many bytes the source has given, compressed as it gave them; 2^64 - 1 if there are more.
     pub fn taken_count(&self) -> u64
         ensures { result ≡ min (length self.now.unread.since.bytes) (2 ^ 64 - 1) }
     {
         self.intake.taken_count()
     }
 
-    /// The fault of the source, where all its bytes are asked for and `next_read` has answered this fault. Behind a
-    /// fault of lines the other bytes are taken and forgotten: that they are too many, or that a read fails, comes
-    /// first.
+    /// The fault of the source, if all its bytes matter and `next_read` has returned this fault. After a fault of lines
+    /// the other bytes are taken and forgotten: that they are too many, or that a read fails, takes precedence.
     pub fn settle<S: Source>(self, source: &mut S, fault: FastxFault) -> FastxFault
         ensures { (start : Seen) (limit : ℕ) → MeetsFault start (S.seen source.old) limit self fault
             → RefusesFor start (S.seen source.new) limit result }
@@ -186,7 +185,7 @@ impl Reading {
         }
     }
 
-    // The next read, and its title where that is asked for; where it isn't, `title` stays as it is.
+    // The next read, and its title if that is asked for; otherwise `title` is unchanged.
     fn next_of<S: Source>(
         &mut self,
         alloc: Global,
@@ -231,7 +230,7 @@ impl Reading {
         }
     }
 
-    // Takes at least as many bytes more as are there, in blocks, or all up to the end.
+    // Takes at least as many more bytes as are there, in blocks, or all up to the end.
     fn grow<S: Source>(&mut self, source: &mut S) -> Result<(), TakeFault>
         requires ended { self.old.ended ≡ false }
         requires failed { self.old.failed ≡ None }
@@ -259,7 +258,7 @@ impl Reading {
         }
     }
 
-    // Keeps the fault of a record and answers it. `Memory` isn't kept: it may be there at the next call.
+    // Keeps the fault of a record and returns it. `Memory` isn't kept: the next call may have some.
     fn keep(&mut self, fault: FastxFault) -> FastxFault
         ensures answered { result ≡ fault }
         ensures kept { self.new ≡ record self.old { failed = kept_fault self.old.failed fault } }
@@ -270,7 +269,7 @@ impl Reading {
         fault
     }
 
-    // The next read, and its title where that is asked for, as far as the lines that are whole in the block tell them.
+    // The next read, and its title if that is asked for, as far as the whole lines in the block determine them.
     fn next_of_whole(
         &mut self,
         alloc: Global,
@@ -330,7 +329,7 @@ impl Reading {
     }
 }
 
-// The next record of lines of which the first isn't blank, and whether it is of FASTQ.
+// The next record of lines of which the first isn't blank, and whether it is FASTQ.
 fn next_record(
     alloc: Global,
     lines: &mut LineCursor<'_>,
@@ -355,7 +354,7 @@ fn next_record(
     Ok(Some((read, true)))
 }
 
-// Whether this answer stays right whatever bytes the source still gives: a record may go on in lines to come.
+// Whether this result stays right whatever bytes the source still gives: a record may go on in lines to come.
 fn is_sure(next: &Result<Option<(SeqRead, bool)>, FastxFault>, lines: &LineCursor<'_>) -> bool
     ensures sure { result ≡ true → IsSure next.now lines.now.left }
     ensures unsure { result ≡ false → IsUnsure next.now lines.now.left }

@@ -1,4 +1,4 @@
-//! What the records of both formats have in common: their sequence lines.
+//! The common part of the records of both formats: their sequence lines.
 ghost use Rattle.std.specs.Prelude.{◌≡◌, ◌<◌, ◌≤◌, true, [], length, vec_capacity, IfOk, IfErr, OnOk};
 ghost use Rattle.std.specs.List.{list_all};
 ghost use Rattle.kc_fastx.specs.Reads.{is_sequence_byte};
@@ -10,8 +10,8 @@ use crate::read_faults::FastxFault;
 use crate::text_lines::LineCursor;
 
 // Takes the sequence lines up to the end or the next line that begins with `stop`, and joins them in `bases`, which is
-// empty and has no more room than bytes are left in front of the next `stop`. No sequence byte is `stop`, so that this
-// room is enough where the sequence is good. Condition: `stop` comes behind the bytes that end lines.
+// empty and has room for at most as many bytes as are left before the next `stop`. No sequence byte is `stop`, so this
+// room is enough for a good sequence. Condition: `stop` is above the bytes that end lines.
 pub(crate) fn take_sequence(
     mut bases: Vec<u8>,
     lines: &mut LineCursor<'_>,
@@ -39,7 +39,7 @@ pub(crate) fn take_sequence(
     Ok(bases)
 }
 
-// Whether a sequence may hold all these bytes. Every byte is looked at, so that the loop has no exit inside.
+// Whether a sequence may have all these bytes. Every byte is looked at, so the loop has no early exit.
 pub(crate) fn are_sequence_bytes(bytes: &[u8]) -> bool
     ensures { result ≡ list_all is_sequence_byte bytes.now }
 {

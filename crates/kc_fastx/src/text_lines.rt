@@ -6,8 +6,8 @@ ghost use Rattle.kc_fastx.specs.Titles.{title_at};
 use memchr::memchr;
 use std::marker::Model;
 
-// A reader of lines, seen as the number of the lines that were taken, the lines that are left, and the bytes that are
-// left.
+// A reader of lines. Its view is the number of the lines that were taken, the lines that are left, and the bytes that
+// are left.
 #[derive(Drop)]
 pub struct LineCursor<'a> {
     pub(crate) left: &'a [u8],
@@ -22,12 +22,12 @@ impl<'a> Model for LineCursor<'a> {
 
     ghost view = { λ c. record { taken = c.taken; left = lines c.left.now; bytes = c.left.now } };
 
-    // Each line that was taken had a byte at least.
+    // Each line that was taken had at least one byte.
     ghost invariant = { λ c. c.taken + length c.left.now < 2 ^ 64 };
 }
 
 impl<'a> LineCursor<'a> {
-    // Takes the next line, where one is left.
+    // Takes the next line, if one is left.
     pub(crate) fn next_line(&mut self) -> Option<&'a [u8]>
         ensures none { IfNone result (self.old.left ≡ []) }
         ensures unchanged { IfNone result (self.new ≡ self.old) }
@@ -57,7 +57,7 @@ impl<'a> LineCursor<'a> {
         }
     }
 
-    // What stands in the next line behind its first byte; nothing where no line is left.
+    // The next line without its first byte; empty if no line is left.
     pub(crate) fn title(&self) -> &'a [u8]
         ensures { result.now ≡ title_at self.now.left }
     {
@@ -68,7 +68,7 @@ impl<'a> LineCursor<'a> {
         }
     }
 
-    // Passes over blank lines.
+    // Skips blank lines.
     pub(crate) fn pass_blanks(&mut self)
         ensures left { self.new.left ≡ skip_blanks self.old.left }
         ensures counted { line_count self.new ≡ line_count self.old }

@@ -31,7 +31,7 @@ use Rattle.kc_gather.specs.TallyNumbers.{AreNumbersOfTally}
 use Rattle.kc_gather.proofs.Rows.{whole-occurrences}
 use Rattle.kc_gather.proofs.Tallies.{few_words}
 
--- ---- one part more
+-- ---- one more part
 
 -- the counts of the first parts, and of the next one
 one-more : (counts : ℕ → List ℕ) (n : ℕ) → first_counts counts (n + 1) ≡ first_counts counts n ++ counts n
@@ -99,7 +99,7 @@ numbers-more counts i old own new before is bins total greatest = record {
 abbrev pub of_stripes : StripeSetup → List NumberedPieces → ℕ → List ℕ
 of_stripes setup batches n = stripe_occurrences setup n batches
 
--- a stripe that holds exactly the given batches counts what they have of its words
+-- a stripe with exactly the given batches counts the occurrences of its words in them
 pub occurrences-whole : {C : Type 0} (setup : StripeSetup) (batches : List NumberedPieces) (i : ℕ) (stripe : StripeState C) → NumbersDiffer stripe.journal → IsWhole setup batches i stripe
     → stripe_occurrences stripe.setup stripe.number stripe.journal ≡ stripe_occurrences setup i batches
 occurrences-whole setup batches i stripe differ whole =
@@ -194,7 +194,7 @@ have_tally setup batches counts short are =
       weigh = λ h none. ap (sum_by h) are ∙ weighed-all setup batches h ∙ whole.weigh h none;
     }
 
--- there are not so many words
+-- there are fewer words than that
 pub words-few : (setup : StripeSetup) (batches : List NumberedPieces) (counts : List ℕ) → setup.rule.k ≤ 31 → AreAllCounts setup batches counts → length counts < 2 ^ 64
 words-few setup batches counts short are =
     let all = sym (sum_by-ones counts) ∙ ap (sum_by (λ _. 1)) are ∙ weighed-all setup batches (λ _. 1)

@@ -25,7 +25,7 @@ use Rattle.kc_gather.specs.Gathering.{IsGiven, IsLeastMissing, HasAllBelow, HasA
 
 -- ---- given batches
 
--- the batch given under its number tells
+-- the given batch with its number determines this
 pub is_given-at : (batches : List NumberedPieces) (batch there : NumberedPieces) (same : Bool) → slice_get batches batch.number ≡ Some there
     → same ≡ is_same_batch there batch → IsTrue same ↔ IsGiven batches batch
 is_given-at batches batch there same at is = (
@@ -65,7 +65,7 @@ not_all_given batches journal i batch within is strange all = strange (subst (Is
 -- ---- a whole journal has the batches, each once
 
 module _ (batches journal : List NumberedPieces) (f : NumberedPieces → ℕ) where
-  -- the batches with this number in a journal weigh what the given one does, so often as the number stands there
+  -- the batches with this number in a journal weigh what the given one does, times the occurrences of the number
   with_number : (i : ℕ) (given : NumberedPieces) → slice_get batches i ≡ Some given → All (IsGiven batches) journal
       → sum_by (λ batch. cond (eqb batch.number i) (f batch) 0) journal ≡ sum_by (λ n. cond (eqb n i) (f given) 0) (numbers_of journal)
   with_number i given at all =
@@ -80,7 +80,7 @@ module _ (batches journal : List NumberedPieces) (f : NumberedPieces → ℕ) wh
       (eqb_tells batch.number i))
       ∙ sym (sum_by-map (λ n. cond (eqb n i) (f given) 0) (λ (batch : NumberedPieces). batch.number) journal)
 
--- of numbers that differ, one is this number, where it stands among them
+-- of different numbers, one is this number, if it is among them
 one_stands : (i weight : ℕ) (xs : List ℕ) → IsDistinct nat_eq xs → Contains xs i → sum_by (λ n. cond (eqb n i) weight 0) xs ≡ weight
 one_stands i weight [] distinct (k, within, is) = absurd (omega (arith, within))
 one_stands i weight (x ∷ xs) distinct stands =
@@ -158,7 +158,7 @@ below_more m (x ∷ xs) =
     past : (x m : ℕ) → m ≤ x → x ≢ m → m + 1 ≤ x
     past x m not_less other = ⊎_elim (λ (less : m < x). omega (arith, less)) (λ (most : x ≤ m). absurd (other (omega (arith, not_less, most)))) (cases_lt m x)
 
--- of numbers that differ at most m are below m: as many where none of these is lacking, and fewer where one is
+-- of numbers that differ at most m are below m: as many if none of these is lacking, and fewer if one is
 module _ (numbers : List ℕ) (differ : IsDistinct nat_eq numbers) where
   below-most : (m : ℕ) → count_by (λ n. ltb n m) numbers ≤ m
   below-most zero = let none = count_by-none (λ n. ltb n 0) numbers (λ k d within. le-ltb (get_or numbers k d) 0 (omega arith)) in omega (arith, none)

@@ -1,11 +1,11 @@
--- Items in piles, and what is answered for each pile, joined.
+-- Items in piles, and what is returned for each pile, joined.
 use Rattle.std.proofs.Common.{◌≡◌, ℕ, suc, ◌+◌, ◌-◌, ◌^◌, ◌<◌, List, [], ◌∷◌, ◌++◌, length, get_or, map, min, take, Vec, Global, Result, Ok, append-nil, ap, sym, ◌∙◌, arith}
 use Rattle.std.specs.List.{flat_map}
 use Rattle.std.proofs.lemmas.List.{length-map, length-append, get_or-map}
 use Rattle.std.proofs.lemmas.List.Concat.{flat_map-append}
 use Rattle.kc_lemmas.proofs.Lists.{flat_map_take_more}
 
--- the items of all lists, one list after the other
+-- the items of all lists, list after list
 abbrev pub all_items : {X : Type 0} → List (Vec X Global) → List X
 all_items lists = flat_map (λ list. list.items) lists
 
@@ -22,12 +22,13 @@ count-more {X} lists i list count more (within, is) before counted =
     let same = ap (λ (l : Vec X Global). length l.items) is in
     omega (arith, taken, same, before, counted)
 
--- what holds of lists and their answers holds of no items with no answers, and of two lists joined with their answers joined
+-- a property of lists and their results holds for no items with no results, and for two joined lists with their joined
+-- results
 pub record Joins {T X : Type 0} (Answers : List T → List X → Type 0) : Type 0 where
   pub none : Answers [] []
   pub both : (xs ys : List T) (us vs : List X) → Answers xs us → Answers ys vs → Answers (xs ++ ys) (us ++ vs)
 
--- where such a thing holds of each pile and its answer, it holds of all items and all answers
+-- if such a property holds for each pile and its result, it holds for all items and all results
 pub in_piles : {T X : Type 0} {Answers : List T → List X → Type 0} → Joins Answers → (piles : List (Vec T Global)) (lists : List (Vec X Global)) → length piles ≡ length lists
     → ((i : ℕ) (pile : Vec T Global) (list : Vec X Global) → i < length piles → Answers (get_or piles i pile).items (get_or lists i list).items)
     → Answers (all_items piles) (all_items lists)
@@ -38,7 +39,7 @@ in_piles joins (pile ∷ piles) (list ∷ lists) as_many each =
     joins.both pile.items (all_items piles) list.items (all_items lists) (each 0 pile list (omega arith))
     (in_piles joins piles lists (omega (arith, as_many)) (λ i p l within. each (suc i) p l (omega (arith, within))))
 
--- the answers, where memory was refused to none
+-- the results, if memory was refused for none
 pub answer-at : {X E : Type 0} (lists : List (Vec X Global)) (answers : List (Result (Vec X Global) E)) → map (λ list. Ok list) lists ≡ answers → (i : ℕ) (list : Vec X Global) → i < length lists
     → get_or answers i (Ok list) ≡ Ok (get_or lists i list)
 answer-at {X} {E} lists answers are i list within =

@@ -35,7 +35,7 @@ words_in_rows rows = map (λ row. row.word) rows
 abbrev pub weight_of : ℕ → Row → ℕ
 weight_of word row = cond (eqb row.word word) row.count 0
 
--- where no row has the word, none counts under it
+-- if no row has the word, none counts under it
 no_weight : (word : ℕ) (rows : List Row) → All (λ row. row.word ≢ word) rows → sum_by (weight_of word) rows ≡ 0
 no_weight word rows apart =
     sum_by-zeros (weight_of word) rows (λ k d within. ap (λ b. cond b (get_or rows k d).count 0) (ne_eqb (get_or rows k d).word word (apart k d within)))
@@ -138,7 +138,7 @@ AreRowsFrom-more setup batches n rows part from of = record {
         let (_, own) = of.words j e inside in
         let stripes = ap (stripe_of setup) same in omega (arith, higher, own, stripes)))))
 
--- a word occurs as often in the journal of a stripe that holds exactly the given batches as in these
+-- a word occurs as often in the journal of a stripe with exactly the given batches as in these
 pub whole-occurrences : {C : Type 0} (setup : StripeSetup) (batches : List NumberedPieces) (i : ℕ) (stripe : StripeState C) → IsDistinct nat_eq (numbers_of stripe.journal)
     → IsWhole setup batches i stripe → (word : ℕ) → word_occurrences setup stripe.journal word ≡ word_occurrences setup batches word
 unfolding occurrences
@@ -150,7 +150,7 @@ whole-occurrences setup batches i stripe distinct whole word =
     as_sum : (entries : List NumberedPieces) → word_occurrences setup entries word ≡ sum_by (λ batch. occurrences setup.rule (as_reads batch.pieces) (text setup.rule.k word)) entries
     as_sum entries = sum_by-flat_map (λ read. occurrences_in setup.rule read (text setup.rule.k word)) (λ (batch : NumberedPieces). as_reads batch.pieces) entries
 
--- a stripe whose journal holds exactly the given batches has their rows
+-- a stripe whose journal has exactly the given batches has their rows
 pub rows-whole : {C : Type 0} (setup : StripeSetup) (batches : List NumberedPieces) (i : ℕ) (stripe : StripeState C) (rows : List Row)
     → IsDistinct nat_eq (numbers_of stripe.journal) → IsWhole setup batches i stripe → AreStripeRows stripe.setup stripe.number stripe.journal rows
     → AreStripeRows setup i batches rows
@@ -166,7 +166,7 @@ rows-whole setup batches i stripe rows distinct whole are =
 
 -- ---- the rows of each stripe
 
--- the rows of all stripes, one stripe after the other
+-- the rows of all stripes, stripe after stripe
 abbrev pub taken_rows : List (Vec LooseSeen Global) → List Row
 taken_rows taken = flat_map part_rows taken
 
@@ -192,7 +192,7 @@ AreRowsFrom-taken setup batches n (parts ∷ taken) all have =
 pub row-words : {setup : StripeSetup} {number : ℕ} {journal : List NumberedPieces} {rows : List Row} → AreStripeRows setup number journal rows → All (λ row. row.word < 4 ^ setup.rule.k) rows
 row-words are k d within = (are.words k d within).0
 
--- the rows of a stripe whose journal holds exactly the given batches, in parts, are those of this stripe of the count
+-- the rows of a stripe whose journal has exactly the given batches, in parts, are those of this stripe of the count
 pub HasRowsOf-whole : {C : Type 0} (setup : StripeSetup) (batches : List NumberedPieces) (n : ℕ) (stripe : StripeState C) (rows : List Row) (parts : Vec LooseSeen Global)
     → IsDistinct nat_eq (numbers_of stripe.journal) → IsWhole setup batches n stripe → AreStripeRows stripe.setup stripe.number stripe.journal rows
     → ArePartsOf stripe.setup.rule.k parts.items → IsPermutation rows (part_rows parts) → HasRowsOf setup batches n parts

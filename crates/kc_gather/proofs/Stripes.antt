@@ -19,7 +19,7 @@ module _ {C : Type 0} (setup : StripeSetup) (batches : List NumberedPieces) (str
       (λ (last : i ≤ j). let same : i ≡ j = omega (arith, last, less) in subst (λ n. StandsThere stripes n (IsWhole setup batches n)) same here)
       (cases_lt j i)
 
-  -- two ranges, one behind the other
+  -- two ranges, one after the other
   pub both-whole : (from middle to : ℕ) → AreWholeIn setup batches stripes from middle → AreWholeIn setup batches stripes middle to → AreWholeIn setup batches stripes from to
   both-whole from middle to first second i behind before = ⊎_elim
       (λ (earlier : i < middle). first i behind earlier)
@@ -45,7 +45,7 @@ module _ {C : Type 0} (setup : StripeSetup) (batches : List NumberedPieces) (str
     refusal = refused.refusal;
   }
 
-  -- where those of the first range are whole, the second range decides
+  -- if those of the first range are whole, the second range decides
   pub second-told : {R : Type 0} (from middle to : ℕ) (result : Result R GatherFault) → from ≤ middle → AreWholeIn setup batches stripes from middle
       → OnOk result (AreWholeIn setup batches stripes middle to) × IfErr result (IsRefusedIn setup batches stripes middle to)
       → OnOk result (AreWholeIn setup batches stripes from to) × IfErr result (IsRefusedIn setup batches stripes from to)

@@ -1,4 +1,4 @@
--- What the stripes of a count have together.
+-- The numbers of all stripes of a count together.
 -- Source: this project's own.
 use Rattle.std.specs.Prelude.{◌≡◌, ℕ, ◌<◌, List, length, sum, slice_index_or}
 use Rattle.std.specs.List.{flat_map, range_with_len}
@@ -10,7 +10,7 @@ use Rattle.kc_booking.specs.Stripe.{stripe_occurrences}
 use Rattle.kc_gather.specs.declared.stripe_part.StripePart.{StripePart}
 use Rattle.kc_gather.specs.declared.stripe_part.StripeNumbers.{StripeNumbers}
 
--- the counts of the first n parts, one part after the other
+-- the counts of the first n parts, part after part
 abbrev pub first_counts : (ℕ → List ℕ) → ℕ → List ℕ
 first_counts counts n = flat_map counts (range_with_len 0 n)
 

@@ -1,4 +1,4 @@
--- What the tally of batches is to the reads that they were cut from.
+-- The tally of batches, and that of the reads from which they were cut.
 -- Source: this project's own.
 use Rattle.std.specs.Prelude.{◌≤◌, ℕ, List, map}
 use Rattle.kc_fastx.specs.Reads.{Read}

@@ -5,14 +5,15 @@ ghost use Rattle.kc_gather.specs.declared.gather_fault.GatherFault.TheVariants.{
 use std::alloc::AllocError;
 use thiserror::Error;
 
-/// Why stripes were not gathered. Stripes are looked at in order, and of one stripe first whether it is foreign.
+/// Why stripes were not gathered. Stripes are looked at in order, and for each it is checked first whether it is
+/// foreign.
 #[derive(Clone, Copy, Debug, Drop, Eq, Error, PartialEq)]
 pub enum GatherFault {
-    /// Refusal 31: the stripe at this index has another setup or another number, or a batch in its journal is not
-    /// the one that was given under its number.
+    /// Refusal 31: the stripe at this index has another setup or another number, or a batch in its journal is not the
+    /// given one with its number.
     #[error("stripe {0} is foreign")]
     Foreign(u32),
-    /// Refusal 32: the journal of the stripe at this index lacks the batch of this number, and none before it.
+    /// Refusal 32: the journal of the stripe at this index lacks the batch with this number, and none before it.
     #[error("stripe {0} lacks batch {1}")]
     Missing(u32, u64),
     /// Refusal 34: memory was refused.

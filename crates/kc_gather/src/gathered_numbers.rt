@@ -1,4 +1,4 @@
-//! The numbers that are gathered from the stripes of a count, without a row of the tally.
+//! The numbers that are gathered from the stripes of a count, without the rows of the tally.
 ghost use Rattle.std.specs.Prelude.{◌≡◌, ◌<◌, ◌^◌, sum};
 ghost use Rattle.kc_gather.specs.JoinedStripes.{HasStripeNumbers};
 ghost use Rattle.kc_gather.specs.TallyNumbers.{AreNumbersOfTally};
@@ -11,7 +11,7 @@ use kc_table::Counts;
 use kc_tally::{Histogram, LooseLists, PackedRows, Statistics};
 use std::alloc::{AllocError, Global};
 
-/// What is known of the counts of a tally without a row of it.
+/// What is known of the counts of a tally without its rows.
 #[derive(Drop)]
 pub struct Numbers {
     /// The histogram of the counts.
@@ -25,12 +25,12 @@ impl Summary for Numbers {
 
     ghost is_part = { HasStripeNumbers };
 
-    /// What the stripe keeps, and the greatest count that one look over its table finds.
+    /// What the stripe has, and the greatest count, which one pass over its table finds.
     fn part_of<C: Counts + Drop>(
         alloc: Global,
         stripe: Stripe<C>,
     ) -> Result<StripePart, AllocError> {
-        // for the proof: what is known of the bins
+        // for the proof: facts about the bins
         stripe.is_lawful();
         let histogram = stripe.histogram(alloc)?;
         Ok(StripePart {
@@ -49,7 +49,7 @@ impl Summary for Numbers {
         setup: &Setup,
         _sort: &F,
     ) -> Result<Numbers, AllocError> {
-        // for the proof: what is known of the length of words
+        // for the proof: facts about the length of words
         let _bases = setup.rule().k().get();
         let all = joined_numbers(alloc, &parts)?;
         let statistics = Statistics {

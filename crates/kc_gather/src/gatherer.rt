@@ -8,12 +8,12 @@ ghost use Rattle.kc_gather.specs.Parts.{list_rows};
 ghost use Rattle.kc_gather.specs.Gathering.{AreWholeBefore};
 ghost use Rattle.kc_gather.specs.Gathering.{IsRefusal, HasRowsOf};
 
-use crate::columns::{columns_of, sorted_each};
+use crate::columns::{columns_of, sort_each};
 use crate::gather_fault::GatherFault;
 use crate::given_stripes::GivenStripes;
 use crate::stripe_part::{StripeNumbers, StripePart};
 use crate::summary::Summary;
-use crate::taken_parts::taken_of_each;
+use crate::taken_parts::take_parts;
 use crate::taken_rows::{rows_in, rows_of};
 use kc_booking::{Setup, Stripe};
 use kc_table::Counts;
@@ -22,12 +22,11 @@ use kc_word::Batch;
 use std::alloc::{AllocError, Global};
 use std::sync::Arc;
 
-/// The tally of the batches, gathered from the stripes in which they were booked. It is refused unless each stripe is
-/// that of its index and its journal holds exactly the given batches, whichever stripe counted what. All stripes are
-/// looked at before memory is asked for. No batch is missing in a journal that has as many entries as there are
-/// batches.
+/// The tally of the batches, gathered from the stripes into which they were booked. It is refused unless each stripe is
+/// that of its index and its journal has exactly the given batches, whichever stripe counted what. All stripes are
+/// checked before memory is asked for. A journal with as many entries as there are batches lacks none.
 ///
-/// Conditions: as many stripes as the setup has; the batches have together at most 2^62 positions.
+/// Conditions: there are as many stripes as the setup has; the batches have at most 2^62 positions together.
 pub fn gather<C: Counts + Drop>(
     alloc: Global,
     stripes: Vec<Stripe<C>>,
@@ -40,7 +39,7 @@ pub fn gather<C: Counts + Drop>(
     ensures tally { IfOk result (IsTallyOf setup.now.rule (reads_in (values batches.now))) }
     ensures refused { IfErr result (IsRefusal setup.now (values batches.now) stripes.items) }
 {
-    // for the proof: what is known of the number of stripes
+    // for the proof: facts about the number of stripes
     setup.stripes();
     let given = GivenStripes {
         stripes: &stripes,
@@ -48,8 +47,8 @@ pub fn gather<C: Counts + Drop>(
         setup,
     };
     given.check(0, stripes.len())?;
-    let parts = taken_of_each::<Tally, C>(alloc, stripes)?;
-    let sort = |columns| sorted_each(alloc, columns);
+    let parts = take_parts::<Tally, C>(alloc, stripes)?;
+    let sort = |columns| sort_each(alloc, columns);
     let tally = Tally::of_parts(alloc, parts, setup, &sort)?;
     Ok(tally)
 }

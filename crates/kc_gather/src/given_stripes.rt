@@ -1,4 +1,4 @@
-//! Stripes that were given to be gathered, beside what each has to hold.
+//! Stripes that were given to be gathered, and what each has to contain.
 ghost use Rattle.std.specs.Prelude.{◌≤◌, ◌^◌, length, IfErr, OnOk};
 ghost use Rattle.std.specs.Thread.{IsSync};
 ghost use Rattle.kc_word.specs.Shared.{values};
@@ -12,7 +12,7 @@ use kc_word::Batch;
 use std::sync::Arc;
 use std::thread::{Threads, join};
 
-/// Stripes, the batches that the journal of each has to hold, and how the words are divided among them.
+/// Stripes, the batches that the journal of each has to contain, and how the words are divided among them.
 #[derive(Drop)]
 pub(crate) struct GivenStripes<'a, C: Counts> {
     pub(crate) stripes: &'a [Stripe<C>],
@@ -21,7 +21,7 @@ pub(crate) struct GivenStripes<'a, C: Counts> {
 }
 
 impl<C: Counts> GivenStripes<'_, C> {
-    /// Looks at the stripes from one index to before another, in order, until one is refused. It takes no memory.
+    /// Checks the stripes from one index to before another, in order, until one is refused. It takes no memory.
     /// Condition: there are so many stripes, and at most 2^32.
     pub(crate) fn check(&self, from: usize, to: usize) -> Result<(), GatherFault>
         requires { (to ≤ length self.now.stripes.now) × (to ≤ 2 ^ 32) }
@@ -39,9 +39,9 @@ impl<C: Counts> GivenStripes<'_, C> {
 
 impl<C: Counts + Sync> GivenStripes<'_, C> {
     /// The same by at most so many threads, since batches are compared with all their bases. It takes no memory.
-    /// Conditions: those of `check`, and the first index is not behind the other.
+    /// Conditions: those of `check`, and the first index is not above the other.
     #[cycle(halves)]
-    pub(crate) fn check_by<H: Threads + Sync>(
+    pub(crate) fn check_in_parallel<H: Threads + Sync>(
         &self,
         rt: &H,
         threads: u32,
@@ -68,7 +68,7 @@ impl<C: Counts + Sync> GivenStripes<'_, C> {
                 let batches = values given.batches.now in
                 OnOk result (AreWholeIn given.setup.now batches given.stripes.now from middle)
                 × IfErr result (IsRefusedIn given.setup.now batches given.stripes.now from middle) }
-        { self.check_by(rt, low, from, middle) };
+        { self.check_in_parallel(rt, low, from, middle) };
         let back = || -> Result<(), GatherFault>
             requires { IsSync H.row × IsSync C.row × (middle ≤ to) × (to ≤ length self.now.stripes.now)
                 × (to ≤ 2 ^ 32) }
@@ -76,7 +76,7 @@ impl<C: Counts + Sync> GivenStripes<'_, C> {
                 let batches = values given.batches.now in
                 OnOk result (AreWholeIn given.setup.now batches given.stripes.now middle to)
                 × IfErr result (IsRefusedIn given.setup.now batches given.stripes.now middle to) }
-        { self.check_by(rt, high, middle, to) };
+        { self.check_in_parallel(rt, high, middle, to) };
         let (first, second) = join(rt, front, back);
         first?;
         second

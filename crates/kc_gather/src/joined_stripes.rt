@@ -1,4 +1,4 @@
-//! What the stripes of a count have together, without a row.
+//! The numbers of all stripes of a count together, without rows.
 ghost use Rattle.std.specs.Prelude.{◌<◌, ◌^◌, ℕ, List, length, sum, IfOk};
 ghost use Rattle.kc_gather.specs.JoinedStripes.{first_counts, AreNumbersOf, HaveNumbers};
 

@@ -1,4 +1,4 @@
-//! Whether a stripe's journal holds the batches that were given.
+//! Whether a stripe's journal has the batches that were given.
 ghost use Rattle.std.specs.Prelude.{◌≡◌, ◌<◌, ◌↔◌, All, count_by, nat_lt, MatchBool};
 ghost use Rattle.std.specs.Prelude.{IsTrue, OnOk, IfErr, IfSome, IfNone};
 ghost use Rattle.kc_word.specs.Shared.{values};
@@ -12,7 +12,7 @@ use kc_table::Counts;
 use kc_word::Batch;
 use std::sync::Arc;
 
-/// Whether the stripe is that of this index, and its journal holds exactly the given batches. It takes no memory.
+/// Whether the stripe is that of this index, and its journal has exactly the given batches. It takes no memory.
 pub(crate) fn check_stripe<C: Counts>(
     index: u32,
     stripe: &Stripe<C>,
@@ -42,7 +42,7 @@ fn is_own<C: Counts>(index: u32, stripe: &Stripe<C>, batches: &[Arc<Batch>], set
     stripe.setup() == setup && stripe.number() == index && are_given(stripe.journal(), batches)
 }
 
-// Whether the batch is the one that is given under its number.
+// Whether the batch is the given one with its number.
 fn is_given(batch: &Batch, batches: &[Arc<Batch>]) -> bool
     ensures { IsTrue result ↔ IsGiven (values batches.now) batch.now }
 {
@@ -50,7 +50,7 @@ fn is_given(batch: &Batch, batches: &[Arc<Batch>]) -> bool
     number < batches.len() as u64 && *batches[number as usize] == *batch
 }
 
-// Whether each batch in the journal is the one that is given under its number.
+// Whether each batch in the journal is the given one with its number.
 fn are_given(journal: &[Arc<Batch>], batches: &[Arc<Batch>]) -> bool
     ensures { IsTrue result ↔ All (IsGiven (values batches.now)) (values journal.now) }
 {
@@ -62,9 +62,9 @@ fn are_given(journal: &[Arc<Batch>], batches: &[Arc<Batch>]) -> bool
     true
 }
 
-// The least number of a given batch that the journal lacks. It is looked for by halving, without memory: of numbers
-// that differ as many as m are below m exactly where none of them is lacking. Conditions: the numbers in the journal
-// differ, and each batch in it is the one that is given under its number.
+// The least number of a given batch that the journal lacks. It is searched by halving, without memory: of different
+// numbers, exactly m are below m if and only if none of those is missing. Conditions: the numbers in the journal
+// differ, and each batch in it is the given one with its number.
 fn first_missing(journal: &[Arc<Batch>], batches: &[Arc<Batch>]) -> Option<u64>
     requires differ { NumbersDiffer (values journal.now) }
     requires given { All (IsGiven (values batches.now)) (values journal.now) }
@@ -87,7 +87,7 @@ fn first_missing(journal: &[Arc<Batch>], batches: &[Arc<Batch>]) -> Option<u64>
     Some(from)
 }
 
-// Whether the journal holds a batch of each number below this one. Condition: its numbers differ.
+// Whether the journal has a batch for each number below this one. Condition: its numbers differ.
 fn has_all_below(journal: &[Arc<Batch>], number: u64) -> bool
     requires { NumbersDiffer (values journal.now) }
     ensures { MatchBool result (HasAllBelow (values journal.now) number)

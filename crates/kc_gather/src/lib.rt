@@ -1,5 +1,5 @@
-//! The end of a count: the tally that is gathered from its stripes when all batches were booked. It is refused unless
-//! each journal holds exactly the given batches.
+//! The end of a count: the tally that is gathered from its stripes after all batches were booked. It is refused unless
+//! each journal has exactly the given batches.
 //!
 //! ```ignore
 //! let tally = gather(alloc, stripes, &batches, &setup)?;    // by value: tables are freed on the way
@@ -25,6 +25,6 @@ mod taken_rows;
 pub use gather_fault::GatherFault;
 pub use gathered_numbers::Numbers;
 pub use gatherer::gather;
-/// The tables with which a count begins.
+/// The tables of a new count.
 pub use kc_booking::{plain_tables, quotient_tables};
 pub use summary::Summary;

@@ -1,4 +1,4 @@
-//! Items that are dealt out in piles, one for each thread, and what the threads answer, joined.
+//! Items that are dealt into piles, one for each thread, and the threads' results, joined.
 ghost use Rattle.std.specs.Prelude.{◌≡◌, ◌≤◌, ◌^◌, ◌-◌, [], ◌∷◌, ◌++◌, length, map, min, IfOk, Ok};
 ghost use Rattle.std.specs.List.{flat_map};
 ghost use Rattle.std.specs.Vec.{vec_capacity};
@@ -7,15 +7,15 @@ use kc_lemmas::room_for_each;
 use std::alloc::{AllocError, Global};
 use std::mem::replace;
 
-/// How much work an item is beside others. How long the threads take depends on it, and nothing else.
+/// How much work an item is, compared with others. Only the time of the threads depends on it.
 pub(crate) trait Weighed {
     /// How much work the item is, in a unit that all items have in common.
     fn weight(&self) -> usize;
 }
 
-/// The items in at most so many piles of about the same weight: one pile after the other, they are all items in their
-/// order. Condition: one pile at the least.
-pub(crate) fn dealt<T: Weighed + Drop>(
+/// The items in at most so many piles of about the same weight: joined in order, they are all items. Condition: at
+/// least one pile.
+pub(crate) fn piles_of<T: Weighed + Drop>(
     alloc: Global,
     items: Vec<T>,
     most: u32,
@@ -48,7 +48,7 @@ fn with_last<T: Drop>(mut piles: Vec<Vec<T>>, pile: Vec<T>) -> Result<Vec<Vec<T>
     Ok(piles)
 }
 
-// What the items weigh together, as far as a `usize` reaches.
+// The weight of the items together, as far as a `usize` reaches.
 fn total_weight<T: Weighed>(items: &[T]) -> usize {
     let mut total = 0usize;
     for item in items {
@@ -57,8 +57,8 @@ fn total_weight<T: Weighed>(items: &[T]) -> usize {
     total
 }
 
-/// The lists that were answered. Memory is refused where it was refused to one of them.
-pub(crate) fn all_ok<T: Drop>(
+/// The lists that were returned; memory is refused if it was refused for one of them.
+pub(crate) fn collect_ok<T: Drop>(
     alloc: Global,
     answers: Vec<Result<Vec<T>, AllocError>>,
 ) -> Result<Vec<Vec<T>>, AllocError>
@@ -71,8 +71,8 @@ pub(crate) fn all_ok<T: Drop>(
     Ok(lists)
 }
 
-/// All items, one list after the other. Each list is freed as soon as its items are taken.
-pub(crate) fn joined<T: Drop>(alloc: Global, lists: Vec<Vec<T>>) -> Result<Vec<T>, AllocError>
+/// All items, list after list. Each list is freed as soon as its items are taken.
+pub(crate) fn concat_lists<T: Drop>(alloc: Global, lists: Vec<Vec<T>>) -> Result<Vec<T>, AllocError>
     ensures { IfOk result (λ all. all.items ≡ flat_map (λ list. list.items) lists.items) }
 {
     let mut all = room_for_all(alloc, &lists)?;

@@ -2,17 +2,16 @@
 
 use kc_tally::{Histogram, LooseRows};
 
-/// What is taken from a stripe: its rows in parts, where a tally is wanted, and else its numbers.
-// It is one type for all summaries, since the checker gives no method that takes an associated type the clauses of its
-// trait.
+/// What is taken from a stripe: its rows in parts, if a tally is wanted, otherwise its numbers.
+// It is one type for all summaries, since the checker gives the clauses of a trait to no method that takes an
+// associated type.
 #[derive(Drop)]
 pub struct StripePart {
     pub(crate) rows: Vec<LooseRows>,
     pub(crate) numbers: StripeNumbers,
 }
 
-/// What is known of the counts of words without a row: their bins, their sum, and the greatest one, 0 where there is
-/// none.
+/// What is known of the counts of words without rows: their bins, their sum, and the greatest one, 0 if there is none.
 #[derive(Drop)]
 pub struct StripeNumbers {
     pub(crate) histogram: Histogram,

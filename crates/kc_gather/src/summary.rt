@@ -1,4 +1,4 @@
-//! `Summary`, what a count may end in: the tally of its batches or, with no row taken, the numbers of that tally.
+//! `Summary`, the result of a count: the tally of its batches or, without its rows, the numbers of that tally.
 ghost use Rattle.std.specs.Prelude.{◌≡◌, ℕ, ◌≤◌, ◌^◌, List, length, IfOk, OnOk, IfErr};
 ghost use Rattle.kc_fastx.specs.Reads.{Read};
 ghost use Rattle.kc_kmer.specs.Rule.{CountingRule};
@@ -10,11 +10,11 @@ ghost use Rattle.kc_gather.specs.Gathering.{AreWholeBefore, IsRefusal};
 ghost use Rattle.kc_gather.specs.Gathering.{IsWhole, AreAllParts};
 ghost use Rattle.kc_gather.specs.Parts.{AreSorted, list_rows};
 
-use crate::columns::sorted_in_parallel;
+use crate::columns::sort_in_parallel;
 use crate::gather_fault::GatherFault;
 use crate::given_stripes::GivenStripes;
 use crate::stripe_part::StripePart;
-use crate::taken_parts::taken_in_parallel;
+use crate::taken_parts::take_parts_in_parallel;
 use kc_booking::{Setup, Stripe};
 use kc_table::Counts;
 use kc_tally::{LooseLists, PackedRows};
@@ -23,8 +23,8 @@ use std::alloc::{AllocError, Global};
 use std::sync::Arc;
 use std::thread::Threads;
 
-/// What a count may end in: the `Tally` of its batches or, without a row of it, its `Numbers`.
-// It is `Send`, since the checker takes no call in another thread that rests on a bound of a type that is not.
+/// The result of a count: the `Tally` of its batches or, without its rows, its `Numbers`.
+// It is `Send`, since the checker accepts no call in another thread that relies on a bound of a type that is not.
 pub trait Summary: Sized + Send {
     ghost use Rattle.kc_gather.specs.declared.stripe_part.StripePart.{StripePart};
 
@@ -39,10 +39,10 @@ pub trait Summary: Sized + Send {
         ensures { (setup : StripeSetup) (batches : List NumberedPieces) (n : ℕ) → IsWhole setup batches n stripe
             → IfOk result (is_part setup batches n) };
 
-    /// The summary that is made of the parts. Where it has rows, `sort` sorts them.
+    /// The summary that is made of the parts. If it has rows, `sort` sorts them.
     ///
-    /// Conditions: the parts are those of all stripes, in order, in a count of batches that have together at most 2^62
-    /// positions; `sort` answers the rows of each column sorted by their words.
+    /// Conditions: the parts are those of all stripes, in order, in a count of batches that have at most 2^62 positions
+    /// together; `sort` returns the rows of each column sorted by their words.
     fn of_parts<F: Fn(Vec<LooseLists>) -> Result<Vec<PackedRows>, AllocError>>(
         alloc: Global,
         parts: Vec<StripePart>,
@@ -56,12 +56,12 @@ pub trait Summary: Sized + Send {
         ensures { (batches : List NumberedPieces) → AreAllParts is_part setup.now batches parts.items
             → IfOk result (is_of setup.now.rule (reads_in batches)) };
 
-    /// The summary of the tally of the batches, gathered from the stripes in which they were booked, by at most so many
-    /// threads. It is refused where `gather` is.
+    /// The summary of the tally of the batches, gathered from the stripes into which they were booked, by at most so
+    /// many threads. It is refused if `gather` is.
     ///
     /// Conditions: those of `gather`, and at least one thread.
-    // It is final, since the checker takes no function of an impl that hands a bounded type to another thread.
-    final fn gathered<C: Counts + Drop + Send + Sync, H: Threads + Sync>(
+    // It is final, since the checker accepts no function of an impl that hands a bounded type to another thread.
+    final fn gather<C: Counts + Drop + Send + Sync, H: Threads + Sync>(
         rt: &H,
         alloc: Global,
         threads: u32,
@@ -77,19 +77,19 @@ pub trait Summary: Sized + Send {
         ensures summary { IfOk result (is_of setup.now.rule (reads_in (values batches.now))) }
         ensures refused { IfErr result (IsRefusal setup.now (values batches.now) stripes.items) }
     {
-        // for the proof: what is known of the number of stripes
+        // for the proof: facts about the number of stripes
         setup.stripes();
         let given = GivenStripes {
             stripes: &stripes,
             batches,
             setup,
         };
-        given.check_by(rt, threads, 0, stripes.len())?;
-        let parts = taken_in_parallel::<Self, C, H>(rt, alloc, threads, stripes)?;
+        given.check_in_parallel(rt, threads, 0, stripes.len())?;
+        let parts = take_parts_in_parallel::<Self, C, H>(rt, alloc, threads, stripes)?;
         let sort = |columns: Vec<LooseLists>| -> Result<Vec<PackedRows>, AllocError>
             requires { 1 ≤ threads }
             ensures { IfOk result (λ sorted. AreSorted (λ column. column.rows) columns.items (list_rows sorted)) }
-        { sorted_in_parallel(rt, alloc, threads, columns) };
+        { sort_in_parallel(rt, alloc, threads, columns) };
         let summary = Self::of_parts(alloc, parts, setup, &sort)?;
         Ok(summary)
     }

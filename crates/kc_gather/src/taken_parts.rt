@@ -2,7 +2,7 @@
 ghost use Rattle.std.specs.Prelude.{◌≤◌, IfOk};
 ghost use Rattle.kc_gather.specs.Gathering.{HavePartsOf};
 
-use crate::piles::{Weighed, all_ok, dealt, joined};
+use crate::piles::{Weighed, collect_ok, concat_lists, piles_of};
 use crate::stripe_part::StripePart;
 use crate::summary::Summary;
 use kc_booking::Stripe;
@@ -12,7 +12,7 @@ use std::alloc::{AllocError, Global};
 use std::thread;
 use std::thread::Threads;
 
-// Stripes have about as many words each.
+// Stripes have about equally many words.
 impl<C: Counts> Weighed for Stripe<C> {
     fn weight(&self) -> usize {
         1
@@ -20,7 +20,7 @@ impl<C: Counts> Weighed for Stripe<C> {
 }
 
 /// The part of each stripe. Each is freed as soon as its part is taken.
-pub(crate) fn taken_of_each<S: Summary, C: Counts + Drop>(
+pub(crate) fn take_parts<S: Summary, C: Counts + Drop>(
     alloc: Global,
     stripes: Vec<Stripe<C>>,
 ) -> Result<Vec<StripePart>, AllocError>
@@ -34,9 +34,9 @@ pub(crate) fn taken_of_each<S: Summary, C: Counts + Drop>(
     Ok(taken)
 }
 
-/// The same by at most so many threads. The C library lets a thread use again what the threads before it freed, and so
-/// rows come to lie where tables were. Condition: one thread at the least.
-pub(crate) fn taken_in_parallel<S: Summary + Send, C: Counts + Drop + Send, H: Threads + Sync>(
+/// The same by at most so many threads. The C library lets a thread reuse what the threads before it freed, so the rows
+/// take the place of the tables. Condition: at least one thread.
+pub(crate) fn take_parts_in_parallel<S: Summary + Send, C: Counts + Drop + Send, H: Threads + Sync>(
     rt: &H,
     alloc: Global,
     threads: u32,
@@ -45,15 +45,15 @@ pub(crate) fn taken_in_parallel<S: Summary + Send, C: Counts + Drop + Send, H: T
     requires { 1 ≤ threads }
     ensures { IfOk result (λ taken. HavePartsOf S.is_part stripes.items taken.items) }
 {
-    let piles = dealt(alloc, stripes, threads)?;
+    let piles = piles_of(alloc, stripes, threads)?;
     let answers = thread::map_vec(
         rt,
         piles,
         &|pile: Vec<Stripe<C>>| -> Result<Vec<StripePart>, AllocError>
             ensures { IfOk result (λ taken. HavePartsOf S.is_part pile.items taken.items) }
-        { taken_of_each::<S, C>(alloc, pile) },
+        { take_parts::<S, C>(alloc, pile) },
     )?;
-    let lists = all_ok(alloc, answers)?;
-    let taken = joined(alloc, lists)?;
+    let lists = collect_ok(alloc, answers)?;
+    let taken = concat_lists(alloc, lists)?;
     Ok(taken)
 }

@@ -5,7 +5,7 @@ ghost use Rattle.kc_booking.specs.Setup.{StripeSetup};
 ghost use Rattle.kc_booking.specs.Stripe.{AreStripeRows};
 ghost use Rattle.kc_gather.specs.Gathering.{IsWhole, HasRowsOf};
 
-use crate::parts::parted;
+use crate::parts::divide_rows;
 use crate::stripe_part::StripePart;
 use kc_booking::Stripe;
 use kc_lemmas::room_for_each;
@@ -21,15 +21,15 @@ pub(crate) fn rows_of<C: Counts + Drop>(
     ensures { (setup : StripeSetup) (batches : List NumberedPieces) (n : ℕ) → IsWhole setup batches n stripe
         → IfOk result (HasRowsOf setup batches n) }
 {
-    // for the proof: what is known of the journal
+    // for the proof: facts about the journal
     stripe.is_lawful();
     let k = stripe.setup().rule().k();
     let rows = unparted_rows(alloc, stripe)?;
-    let parts = parted(alloc, k, &rows)?;
+    let parts = divide_rows(alloc, k, &rows)?;
     Ok(parts)
 }
 
-// The words of a stripe with their counts. The stripe is freed, so that its memory is there for their parts.
+// The words of a stripe with their counts. The stripe is freed, so its memory is available for their parts.
 fn unparted_rows<C: Counts + Drop>(alloc: Global, stripe: Stripe<C>) -> Result<Vec<Row>, AllocError>
     ensures { IfOk result (λ rows. AreStripeRows stripe.setup stripe.number stripe.journal rows.items) }
 {

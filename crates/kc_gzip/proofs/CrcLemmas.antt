@@ -15,7 +15,7 @@ abbrev pub steps : ℕ → ℕ → ℕ
 steps zero r = r
 steps (suc n) r = steps n (times_x r)
 
--- what is added where the lowest bit is 1
+-- what is added if the lowest bit is 1
 abbrev back : ℕ → ℕ
 back low = cond (eqb low 1) generator 0
 
@@ -89,7 +89,7 @@ fold-steps r (b ∷ bits) =
     ∙ sym (times_x-xor (bit_xor r (bit b)) (2 * m))
     ∙ ap times_x (xor_assoc r (bit b) (2 * m) ∙ ap (bit_xor r) (sym (join b m))))
 
--- a byte's bits say the byte
+-- the number in a byte's bits is the byte
 pub number_of-byte_bits : (byte : ℕ) → byte < 256 → number_of (byte_bits byte) ≡ byte
 number_of-byte_bits byte h = sym (table_at (λ n. number_of (byte_bits n)) (range_with_len 0 256) 256 refl byte h) ∙ table_at (λ n. n) (range_with_len 0 256) 256 refl byte h
 
@@ -101,7 +101,7 @@ block-parts a low h =
     ap (λ y. bit_xor y low) first ∙ ap (bit_xor (a * 256 + 0)) second ∙ xor_block 8 a 0 0 low (omega arith) h
     ∙ ap (λ y. y * 256 + low) (xor_zero_r a)
 
--- what the table has to hold gives the register after a byte
+-- the entries of the table give the register after a byte
 pub by_table : (r byte entry : ℕ) → byte < 256 → entry ≡ steps 8 (bit_xor r byte % 256) → bit_xor entry (r / 256) ≡ register_after_byte r byte
 unfolding register_after_byte
 by_table r byte entry h e =
@@ -141,7 +141,7 @@ after-zeros (suc count) r =
     after-zeros count (register_after_byte r 0) ∙ ap (steps (8 * count)) (after-zero r)
     ∙ sym (steps-add 8 (8 * count) r) ∙ ap (λ k. steps k r) (sym one)
 
--- the low byte moves on by itself, and the others are a byte less behind
+-- the low byte moves on by itself, and the others are a byte less after
 split-low : (k x : ℕ) → steps (8 + k) x ≡ bit_xor (steps (8 + k) (x % 256)) (steps k (x / 256))
 split-low k x =
     let whole : x ≡ x / 256 * 256 + x % 256 = omega arith in
@@ -167,7 +167,7 @@ fold-bits r (byte ∷ bytes) =
 number_of-behind : (byte : ℕ) (bits : List Bool) → byte < 256 → number_of (byte_bits byte ++ bits) ≡ byte + 256 * number_of bits
 number_of-behind byte bits h = (let e : number_of (byte_bits byte) ≡ byte = number_of-byte_bits byte h in omega (arith, e))
 
--- the number that bytes say, the least first
+-- the number in bytes, the lowest first
 abbrev number_at_once : List ℕ → ℕ
 number_at_once [] = 0
 number_at_once (byte ∷ bytes) = byte + 256 * number_at_once bytes
@@ -192,7 +192,7 @@ number-of-eight (a ∷ b ∷ c ∷ d ∷ f ∷ g ∷ h ∷ i ∷ []) e =
     omega (arith, sum)
 number-of-eight (a ∷ b ∷ c ∷ d ∷ f ∷ g ∷ h ∷ i ∷ j ∷ more) e = absurd (omega (arith, e))
 
--- what the register becomes of a low byte, so many bytes of zeros later
+-- the effect of a low byte on the register after so many bytes of zeros
 abbrev pub behind : ℕ → ℕ → ℕ
 behind count number = register_after (number % 256) (replicate count 0)
 
@@ -206,7 +206,7 @@ next-byte sum count x rest is =
     ∙ ap (λ y. bit_xor (bit_xor sum y) (steps (8 * count) (x / 256))) (sym (after-zeros (suc count) (x % 256)))
     ∙ ap (λ y. bit_xor (bit_xor sum (behind (suc count) x)) (steps (8 * count) y)) (sym is)
 
--- eight bytes: each moves on by those behind it
+-- eight bytes: each moves on by those after it
 pub eight-at-once : (r number : ℕ) (bytes : List ℕ) → length bytes ≡ 8 → ((i : ℕ) → get_or bytes i 0 < 256) → number ≡ from_le_bytes w64 bytes
     → (x : ℕ) → x ≡ bit_xor r number → x < 2 ^ 64
     → bit_xor (bit_xor (bit_xor (bit_xor (bit_xor (bit_xor (bit_xor (behind 8 x) (behind 7 (x / 2 ^ 8))) (behind 6 (x / 2 ^ 16))) (behind 5 (x / 2 ^ 24))) (behind 4 (x / 2 ^ 32))) (behind 3 (x / 2 ^ 40))) (behind 2 (x / 2 ^ 48))) (behind 1 (x / 2 ^ 56))
@@ -250,7 +250,7 @@ eight-sums r number bytes long small is x mixed below a b c d f g h i ea eb ec e
 
 -- ---- the tables
 
--- so many bytes of zeros later, table by table
+-- after so many bytes of zeros, table by table
 abbrev pub tables : List ℕ
 tables = map (λ n. steps (8 * (n / 256 + 1)) (n % 256)) (range_with_len 0 2048)
 

@@ -1,4 +1,4 @@
--- The bytes that came of a source since it was first seen: what one filling more makes of them.
+-- The bytes that came from a source since it was first seen, and the effect of one more filling.
 use Rattle.std.proofs.Common.{◌≡◌, ℕ, ◌+◌, List, [], ◌++◌, length, refl, sym, ap, subst, ◌∙◌, arith, append_assoc, append-nil}
 use Rattle.std.proofs.lemmas.List.{append_cancel_left, length-append}
 use Rattle.std.proofs.lemmas.List.Elements.{All-nil}

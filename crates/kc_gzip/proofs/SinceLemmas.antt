@@ -1,4 +1,4 @@
--- What a source has answered since a reader took it over: what one read more makes of it, and how two stretches join.
+-- What a source has answered since a reader took it over: the effect of one more read, and how two periods join.
 use Rattle.std.proofs.Common.{◌≡◌, ℕ, ◌+◌, ◌<◌, List, [], ◌∷◌, ◌++◌, length, take, map, Bool, true, false, cond, eqb, ltb, Option, None, Some, IfSome, Result, Ok, Err, refl, sym, ap, ◌∙◌, append_assoc, append-nil, arith}
 use Rattle.std.specs.Prelude.{◌≢◌}
 use Rattle.std.specs.Io.KnownBytes.{Consumes, IsAtEnd, ReadConsumes}
@@ -50,7 +50,7 @@ joined-joined a b c = same-history (joined (joined a b) c) (joined a (joined b c
     refl
     (append_assoc a.asked b.asked c.asked)
 
--- one answer more
+-- one more answer
 pub after-joined : (h : History) (result : Result ℕ Failed) (slice : List ℕ) → after h result slice ≡ joined h (after no_history result slice)
 after-joined h (Ok n) slice = same-history (after h (Ok n) slice) (joined h (after no_history (Ok n) slice)) refl (ends (is_end n slice)) (omega arith) refl refl
   where

@@ -6,7 +6,7 @@ ghost use Rattle.kc_gzip.specs.Crc.{first_register, register_after, register_aft
 /// The register before the first byte.
 pub const FIRST_REGISTER: u32 = 0xffff_ffff;
 
-// what the register becomes of each low byte: one byte of zeros later, two, and so on up to eight
+// the effect of the low byte on the register after one byte of zeros, after two, and so on up to eight
 #[rattlefmt::skip]
 static TABLES: [u32; 2048] = [
     0x00000000, 0x77073096, 0xee0e612c, 0x990951ba, 0x076dc419, 0x706af48f, 0xe963a535, 0x9e6495a3,
@@ -267,56 +267,56 @@ static TABLES: [u32; 2048] = [
     0x2c8e0fff, 0xe0240f61, 0x6eab0882, 0xa201081c, 0xa8c40105, 0x646e019b, 0xeae10678, 0x264b06e6,
 ];
 
-/// The register after one byte more.
+/// The register after one more byte.
 #[inline(always)]
-pub fn after_byte(register: u32, byte: u8) -> u32
+pub fn crc_after_byte(register: u32, byte: u8) -> u32
     ensures { result ≡ register_after_byte register byte }
 {
     TABLES[((register ^ byte as u32) & 0xff) as usize] ^ (register >> 8)
 }
 
-/// The register after these bytes more.
-pub fn after_bytes(register: u32, bytes: &[u8]) -> u32
+/// The register after these bytes.
+pub fn crc_after_bytes(register: u32, bytes: &[u8]) -> u32
     ensures { result ≡ register_after register bytes.now }
 {
     let mut current = register;
     let mut rest = bytes;
     while let Some((eight, behind)) = rest.split_first_chunk::<8>() {
-        current = after_eight(current, eight);
+        current = crc_after_eight(current, eight);
         rest = behind;
     }
-    after_each(current, rest)
+    crc_after_each(current, rest)
 }
 
 // The same, a byte at a time.
-fn after_each(register: u32, bytes: &[u8]) -> u32
+fn crc_after_each(register: u32, bytes: &[u8]) -> u32
     ensures { result ≡ register_after register bytes.now }
 {
     let mut current = register;
     for byte in bytes {
-        current = after_byte(current, *byte);
+        current = crc_after_byte(current, *byte);
     }
     current
 }
 
-// The register after eight bytes more. Each of them moves on by those behind it, and their sum is the register.
-fn after_eight(register: u32, bytes: &[u8; 8]) -> u32
+// The register after eight more bytes. Each of them moves on by those after it, and their sum is the register.
+fn crc_after_eight(register: u32, bytes: &[u8; 8]) -> u32
     ensures { result ≡ register_after register bytes.now }
 {
     let mixed = register as u64 ^ u64::from_le_bytes(*bytes);
-    behind_zeros(8, mixed)
-        ^ behind_zeros(7, mixed >> 8)
-        ^ behind_zeros(6, mixed >> 16)
-        ^ behind_zeros(5, mixed >> 24)
-        ^ behind_zeros(4, mixed >> 32)
-        ^ behind_zeros(3, mixed >> 40)
-        ^ behind_zeros(2, mixed >> 48)
-        ^ behind_zeros(1, mixed >> 56)
+    crc_behind_zeros(8, mixed)
+        ^ crc_behind_zeros(7, mixed >> 8)
+        ^ crc_behind_zeros(6, mixed >> 16)
+        ^ crc_behind_zeros(5, mixed >> 24)
+        ^ crc_behind_zeros(4, mixed >> 32)
+        ^ crc_behind_zeros(3, mixed >> 40)
+        ^ crc_behind_zeros(2, mixed >> 48)
+        ^ crc_behind_zeros(1, mixed >> 56)
 }
 
-// What the register becomes of the low byte of the number, after so many bytes of zeros. Condition: from one to eight.
+// The effect of the number's low byte on the register after so many bytes of zeros. Condition: one to eight.
 #[inline(always)]
-fn behind_zeros(count: usize, number: u64) -> u32
+fn crc_behind_zeros(count: usize, number: u64) -> u32
     requires some { 0 < count }
     requires few { count ≤ 8 }
     ensures { result ≡ register_after (number % 256) (replicate count 0) }
@@ -328,5 +328,5 @@ fn behind_zeros(count: usize, number: u64) -> u32
 pub fn crc32(bytes: &[u8]) -> u32
     ensures { result ≡ crc bytes.now }
 {
-    after_bytes(FIRST_REGISTER, bytes) ^ FIRST_REGISTER
+    crc_after_bytes(FIRST_REGISTER, bytes) ^ FIRST_REGISTER
 }

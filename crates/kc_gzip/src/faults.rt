@@ -1,4 +1,4 @@
-//! How gzip is refused.
+//! The faults of gzip.
 ghost use Rattle.std.specs.Prelude.{◌≡◌};
 ghost use Rattle.kc_gzip.specs.declared.faults.GzipFault.TheVariants.{Memory};
 

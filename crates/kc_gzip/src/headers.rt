@@ -1,4 +1,4 @@
-//! A member's header field by field (RFC 1952, 2.3.1), of which no more than its check sum's register is kept.
+//! A member's header, field by field (RFC 1952, 2.3.1); only the register of its check sum is kept.
 ghost use Rattle.std.specs.Prelude.{◌≡◌, ◌==◌, ◌<◌, ◌%◌, ◌^◌, ℕ, List, length, min, bit_xor, if◌then◌else◌};
 ghost use Rattle.kc_gzip.specs.Buffer.{bits_left};
 ghost use Rattle.kc_gzip.specs.Reading.{with_left, Gives};
@@ -7,12 +7,12 @@ ghost use Rattle.kc_gzip.specs.Members.{has_flag};
 ghost use Rattle.kc_gzip.specs.Fields.{sum_bytes_at, next_sum, start_at, begun_header, GoesOn, SumsLetters};
 
 use crate::bits::Bits;
-use crate::checksum::{FIRST_REGISTER, after_byte, after_bytes};
+use crate::checksum::{FIRST_REGISTER, crc_after_byte, crc_after_bytes};
 use crate::faults::GzipFault;
 use crate::members::{flags_of, has_flag, is_taken};
 use std::alloc::Global;
 
-/// What comes next of a header.
+/// What comes next in a header.
 #[derive(Clone, Copy, Debug, PartialEq, Eq)]
 pub enum Place {
     /// The length of the extra field.
@@ -38,7 +38,7 @@ pub struct Header {
 /// Takes the first ten bytes of a header.
 ///
 /// # Errors
-/// `Short` where fewer are left, `Broken` where they are wrong, and `Memory`.
+/// `Short` if fewer are left, `Broken` if they are wrong, and `Memory`.
 #[tactic(auto, unfolding(crate::specs::Fields::start_at))]
 pub fn take_start(alloc: Global, bits: &mut Bits) -> Result<(u8, u32), GzipFault>
     ensures { Gives (λ start. (start.0, start.1)) result (bits_left bits.new) (start_at (bits_left bits.old)) }
@@ -56,14 +56,14 @@ pub fn take_start(alloc: Global, bits: &mut Bits) -> Result<(u8, u32), GzipFault
     }
     Ok((
         flags_of(fixed.as_slice()),
-        after_bytes(FIRST_REGISTER, fixed.as_slice()),
+        crc_after_bytes(FIRST_REGISTER, fixed.as_slice()),
     ))
 }
 
-/// Takes the next field, or the part of it that is there. Answers what is left of the header, if anything is.
+/// Takes the next field, or the part of it that is there. Returns what is left of the header, if anything is.
 ///
 /// # Errors
-/// `Short` where nothing of the field is there, and `Broken` where the check sum is wrong.
+/// `Short` if nothing of the field is there, and `Broken` if the check sum is wrong.
 pub fn take_field(header: Header, bits: &mut Bits) -> Result<Option<Header>, GzipFault>
     ensures { GoesOn result header (bits_left bits.old) (bits_left bits.new) }
 {
@@ -99,7 +99,7 @@ fn take_size(header: Header, bits: &mut Bits) -> Result<Option<Header>, GzipFaul
     Ok(Some(Header {
         place: Place::Extra(low + 256 * high),
         flags: header.flags,
-        register: after_byte(after_byte(header.register, low as u8), high as u8),
+        register: crc_after_byte(crc_after_byte(header.register, low as u8), high as u8),
     }))
 }
 
@@ -108,7 +108,7 @@ fn take_extra(header: Header, left: u32, bits: &mut Bits) -> Result<Option<Heade
     requires { header.place ≡ Place.Extra left }
     ensures { GoesOn result header (bits_left bits.old) (bits_left bits.new) }
 {
-    let count = least(left, bits.whole_bytes());
+    let count = min_count(left, bits.whole_bytes());
     if count == 0 && left > 0 {
         return Err(GzipFault::Short);
     }
@@ -122,7 +122,7 @@ fn take_extra(header: Header, left: u32, bits: &mut Bits) -> Result<Option<Heade
     }
 }
 
-// What comes next where so many bytes of the extra field are left.
+// What comes next if so many bytes of the extra field are left.
 fn place_behind(left: u32) -> Place
     ensures { result ≡ (if left == 0 then Place.Name else Place.Extra left) }
 {
@@ -133,8 +133,8 @@ fn place_behind(left: u32) -> Place
     }
 }
 
-/// The less of both.
-pub fn least(left: u32, there: usize) -> u32
+/// The lesser of both.
+pub fn min_count(left: u32, there: usize) -> u32
     ensures { result ≡ min left there }
 {
     if there < left as usize {
@@ -188,7 +188,7 @@ fn take_comment(header: Header, bits: &mut Bits) -> Result<Option<Header>, GzipF
     }
 }
 
-// The place behind a text, where that has ended.
+// The place after a text, if that has ended.
 fn place_after(ended: bool, now: Place, next: Place) -> Place
     ensures { result ≡ (if ended then next else now) }
 {
@@ -220,7 +220,7 @@ fn check_sum(register: u32) -> u32
     (register ^ FIRST_REGISTER) & 0xffff
 }
 
-// The register behind so many bytes.
+// The register after so many bytes.
 fn sum_bytes(register: u32, count: u32, bits: &mut Bits) -> Result<u32, GzipFault>
     ensures { sum_bytes_at register count (bits_left bits.old) ≡ with_left result (bits_left bits.new) }
 {
@@ -230,12 +230,12 @@ fn sum_bytes(register: u32, count: u32, bits: &mut Bits) -> Result<u32, GzipFaul
             Ok(byte) => byte,
             Err(fault) => return Err(fault),
         };
-        current = after_byte(current, byte as u8);
+        current = crc_after_byte(current, byte as u8);
     }
     Ok(current)
 }
 
-// The register behind the letters of a text up to its end, or behind those that are there; and whether it ended.
+// The register after the letters of a text up to its end, or after those that are there; and whether it ended.
 fn sum_letters(register: u32, bits: &mut Bits) -> Result<(u32, bool), GzipFault>
     ensures { SumsLetters result register (bits_left bits.old) (bits_left bits.new) }
 {
@@ -254,11 +254,11 @@ fn sum_letters(register: u32, bits: &mut Bits) -> Result<(u32, bool), GzipFault>
     Ok((current, ended))
 }
 
-// The register behind one letter, and whether it ends a text.
+// The register after one letter, and whether it ends a text.
 #[tactic(auto, unfolding(crate::specs::Fields::next_sum))]
 fn sum_letter(register: u32, bits: &mut Bits) -> Result<(u32, bool), GzipFault>
     ensures read { next_sum register (bits_left bits.old) ≡ with_left result (bits_left bits.new) }
 {
     let byte = bits.number(8)?;
-    Ok((after_byte(register, byte as u8), byte == 0))
+    Ok((crc_after_byte(register, byte as u8), byte == 0))
 }

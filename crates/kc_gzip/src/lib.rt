@@ -1,8 +1,8 @@
-//! Gzip: the text that compressed bytes say (RFC 1951 and RFC 1952).
+//! Gzip: the text of compressed bytes (RFC 1951 and RFC 1952).
 //!
-//! `gunzip` answers the text of all members of a file, or a `GzipFault`: the bytes are broken or cut short. A `Gunzip`
-//! is a source of the decompressed bytes of another. `crc32` is the check sum of a member. What bytes say is defined in
-//! `specs/` (`Bits`, `Codes`, `Elements`, `Blocks`, `Members`; `Crc` for the check sum), and `laws` has worked rows.
+//! `gunzip` returns the text of all members of a file, or a `GzipFault`: the bytes are broken or cut short. A `Gunzip`
+//! is a source of the decompressed bytes of another. `crc32` is the check sum of a member. The text of bytes is defined
+//! in `specs/` (`Bits`, `Codes`, `Elements`, `Blocks`, `Members`; `Crc` for the check sum), and `laws` has worked rows.
 //!
 //! ```ignore
 //! let file = b"\x1f\x8b\x08\x00\x00\x00\x00\x00\x00\xff\xb3+2\xe4rt\xe6\x02\x00\xc6\xce\xff\x9a\x07\x00\x00\x00";

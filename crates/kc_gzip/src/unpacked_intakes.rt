@@ -1,4 +1,4 @@
-//! The intake of a source block by block, for readers that use the bytes that it says as they come.
+//! Taking a source block by block, for readers that use its text as it comes.
 ghost use Rattle.std.specs.Prelude.{◌≡◌, ◌+◌, ◌-◌, ◌^◌, ◌≤◌, length, drop, min, IfOk, IfErr, OnErr};
 ghost use Rattle.kc_gzip.specs.declared.unpacked_intakes.TakeFault.TheVariants.{Memory};
 ghost use Rattle.kc_gzip.specs.Since.{Continues};
@@ -13,10 +13,10 @@ use std::alloc::{AllocError, AllocFailed, Global};
 use std::marker::Model;
 use thiserror::Error;
 
-/// Why the bytes that a source says could not be taken.
+/// Why the text of a source could not be taken.
 #[derive(Clone, Copy, Debug, PartialEq, Eq, Error)]
 pub enum TakeFault {
-    /// The source says more bytes than the limit.
+    /// The text is longer than the limit.
     #[error("too long")]
     TooLong,
     /// A read failed.
@@ -63,7 +63,7 @@ impl From<GunzipFault> for TakeFault {
     }
 }
 
-/// The bytes that came of a source and were not used yet, and how many more may come. Gzip is decompressed.
+/// The bytes that came from a source and are not used yet, and how many more may come. Gzip is decompressed.
 ///
 /// It keeps these bytes, one block, and what the decompression keeps, whatever came before.
 #[derive(Drop)]
@@ -93,10 +93,10 @@ impl Model for Intake {
 }
 
 impl Intake {
-    /// Nothing was taken yet, and `limit` bytes may come.
+    /// The state before the first read, if `limit` bytes may come.
     ///
     /// # Errors
-    /// `AllocError` where a block was refused.
+    /// `AllocError` if a block was refused.
     pub fn new(alloc: Global, limit: u64) -> Result<Intake, AllocError>
         ensures { IfOk result (λ intake. intake ≡ nothing_taken limit) }
     {
@@ -109,21 +109,21 @@ impl Intake {
         })
     }
 
-    /// The bytes that came and were not used yet.
+    /// The bytes that came and are not used yet.
     pub fn as_slice(&self) -> &[u8]
         ensures { result.now ≡ self.now.bytes }
     {
         &self.bytes[self.used..]
     }
 
-    /// How many bytes the source has given, compressed as it gave them, or 2^64 - 1 where they are more.
+    /// How many bytes the source has given, compressed as it gave them; 2^64 - 1 if there are more.
     pub fn taken_count(&self) -> u64
         ensures { result ≡ min (length self.now.since.bytes) (2 ^ 64 - 1) }
     {
         self.unpacking.taken_count()
     }
 
-    /// Uses the first `count` bytes, which are forgotten. Condition: at least `count` bytes are there.
+    /// Uses the first `count` bytes, which are forgotten. Condition: there are at least `count` bytes.
     pub fn use_up(&mut self, count: usize)
         requires { count ≤ length self.old.bytes }
         ensures { self.new ≡ record self.old { bytes = drop count self.old.bytes } }
@@ -131,13 +131,13 @@ impl Intake {
         self.used += count;
     }
 
-    /// Takes more of the source, and puts at most a block of what it says behind the bytes that are there: true where
-    /// some came, false where the source told its end and all came.
+    /// Takes more from the source, and appends at most a block of its text to the bytes that are there: true if some
+    /// came, false if the source returned its end and all came.
     ///
     /// # Errors
-    /// `TooLong` where more came than might, `Read` where a read failed, `Broken` and `Short` where the gzip is broken
-    /// or cut short, behind all that can be read of it, and `Memory`. Each leaves the bytes that are there, and how
-    /// many more may come.
+    /// `TooLong` if more came than there was room for, `Read` if a read failed, `Broken` and `Short` if the gzip is
+    /// broken or cut short, after all that can be read of it, and `Memory`. Each leaves the bytes that are there, and
+    /// how many more may come.
     pub fn fill<S: Source>(&mut self, source: &mut S) -> Result<bool, TakeFault>
         ensures filled { Fills (S.seen source.old) (S.seen source.new) self.old self.new result }
         ensures one_block { length self.new.bytes ≤ length self.old.bytes + BLOCK_SIZE }
@@ -156,10 +156,10 @@ impl Intake {
         Ok(true)
     }
 
-    /// Takes all that comes of the source by way of the block, forgets it, and answers how many bytes it says.
+    /// Takes the rest of the source block by block, forgets it, and returns the length of its text.
     ///
     /// # Errors
-    /// As `fill`. It takes no memory but for the decompression.
+    /// As `fill`. It takes memory only for the decompression.
     pub fn skip_rest<S: Source>(mut self, source: &mut S) -> Result<u64, TakeFault>
         ensures { Skips (S.seen source.old) (S.seen source.new) self result }
     {
@@ -180,7 +180,7 @@ fn forget(bytes: &mut Vec<u8>, used: usize)
     }
 }
 
-// Takes what comes by one reading into the block. Condition: the block is whole, as those before were.
+// Takes what one read gives into the block. Condition: the block is whole, as those before were.
 fn take<S: Source>(
     unpacking: &mut Unpacking,
     source: &mut S,
@@ -205,7 +205,7 @@ fn take<S: Source>(
     }
 }
 
-// Takes all that comes, by way of the block, and answers how many bytes it was.
+// Takes all that comes, block by block, and returns how many bytes it was.
 fn skip_by_blocks<S: Source>(
     unpacking: &mut Unpacking,
     source: &mut S,

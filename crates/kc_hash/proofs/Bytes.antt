@@ -30,7 +30,7 @@ without_top k n below =
     ap (λ m. bit_xor m (2 ^ k)) (whole ∙ xor_comm (2 ^ k) n)
     ∙ xor_assoc n (2 ^ k) (2 ^ k) ∙ ap (bit_xor n) (xor_self (2 ^ k)) ∙ xor_zero_r n
 
--- one bit more, at a position of the number
+-- one more bit, at a position of the number
 pub product_bit_more : (columns : List ℕ) (n k m : ℕ)
     → product columns (n * 2 ^ m) ≡ bit_xor (product columns (bit_xor n (2 ^ k) * 2 ^ m)) (get_or columns (m + k) 0)
 product_bit_more columns n k m =
@@ -44,19 +44,19 @@ product_bit_more columns n k m =
 pub record FillsTable (columns : List ℕ) (position : ℕ) (table : List ℕ) (byte : ℕ) : Type 0 where
   pub filled : (b : ℕ) → b < byte → get_or table b 0 ≡ product columns (b * 2 ^ (8 * position))
 
--- so many of the first entries are put behind the width, with the column added
+-- so many of the first entries were copied after the first `width`, with the column added
 pub record AddsColumn (old new : List ℕ) (width column count : ℕ) : Type 0 where
   pub lower : (i : ℕ) → i < width → get_or new i 0 ≡ get_or old i 0
   pub upper : (i : ℕ) → i < count → get_or new (width + i) 0 ≡ bit_xor (get_or old i 0) column
 
--- the width is 2 ^ bit, as far as the old table is filled; behind it the column is added, whose number is the byte's bit
+-- the width is 2 ^ bit, as far as the old table is filled; after it the column is added, whose number is the byte's bit
 pub record IsDoubling (columns : List ℕ) (position bit : ℕ) (old new : List ℕ) (width column : ℕ) : Type 0 where
   pub so_far : FillsTable columns position old (2 ^ bit)
   pub wide : width ≡ 2 ^ bit
   pub is : column ≡ get_or columns (8 * position + bit) 0
   pub added : AddsColumn old new width column width
 
--- the table of a position, filled below twice the width by one column more
+-- the table of a position, filled below twice the width by one more column
 pub table_doubled : (columns : List ℕ) (position bit : ℕ) (old new : List ℕ) (width column : ℕ) → IsDoubling columns position bit old new width column
     → FillsTable columns position new (2 ^ (bit + 1))
 table_doubled columns position bit old new width column d = record {
@@ -126,7 +126,7 @@ tables_more columns tables bit place new width column so_far small at doubling =
       ];
 }
 
--- one byte more of the number
+-- one more byte of the number
 pub product_byte_more : (columns : List ℕ) (x position : ℕ)
     → bit_xor (product columns (x % 2 ^ (8 * position))) (product columns (bit_and (x / 2 ^ (8 * position)) 255 * 2 ^ (8 * position)))
     ≡ product columns (x % 2 ^ (8 * (position + 1)))

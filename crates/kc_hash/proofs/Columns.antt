@@ -38,7 +38,7 @@ column_read bits columns seen index m e h =
       few = omega arith;
     }
 
--- a column, and 0 behind the last
+-- a column, and 0 after the last
 pub column_any : (bits : ℕ) (columns seen : List ℕ) (index : ℕ) → IsMatrix bits columns → take bits columns ≡ seen
     → get_or columns index 0 ≡ get_or seen index 0
 column_any bits columns seen index m e =

@@ -4,7 +4,7 @@ use Rattle.std.proofs.lemmas.List.{get_or-set_same, get_or-set_other, length-set
 use Rattle.kc_hash.specs.Matrix.{IsWidth, IsMatrix}
 use Rattle.kc_hash.specs.Inversion.{zeros-get_or}
 
--- the first entries of the given columns are copied and have so many bits; behind them there is 0
+-- the first entries of the given columns are copied and have so many bits; zeros follow them
 pub record CopiesFront (bits : ℕ) (columns kept : List ℕ) (index : ℕ) : Type 0 where
   pub full : length kept ≡ 62
   pub copied : (i : ℕ) → i < index → get_or kept i 0 ≡ get_or columns i 0
@@ -56,7 +56,7 @@ copies-take bits columns kept index long fits end so_far =
     let copied : get_or kept i 0 ≡ get_or columns i 0 = so_far.copied i (omega arith) in
     get_or-take bits kept i 0 inner ∙ copied ∙ sym (get_or-take bits columns i 0 inner))
 
--- the same where the list has these columns alone
+-- the same if the list has these columns alone
 pub copies_whole : (bits : ℕ) (columns kept : List ℕ) (index : ℕ) → length columns ≡ bits → bits ≤ 62 → index ≡ bits → CopiesFront bits columns kept index
     → take bits kept ≡ columns
 copies_whole bits columns kept index long fits end so_far =

@@ -1,4 +1,5 @@
--- The matrix product is linear; what it is at 0, at a xor, at one bit, at the identity, and under a linear map of all columns.
+-- The matrix product is linear; what it is at 0, at a xor, at one bit, at the identity, and under a linear map of all
+-- columns.
 use Rattle.std.proofs.Common.{◌≡◌, ℕ, zero, suc, ◌+◌, ◌*◌, ◌/◌, ◌%◌, ◌^◌, ◌<◌, ◌≤◌, Bool, cond, eqb, List, [], ◌∷◌, ◌++◌, length, map, get_or, take, refl, sym, ◌∙◌, ap, ap₂, zero-add, add-one, mod-eq_of_lt, ⊎_elim, arith}
 use Rattle.std.specs.Int.{bit_at}
 use Rattle.std.specs.Prelude.{bit_xor, bit_and}
@@ -182,7 +183,7 @@ product-pow columns k h = product-combine columns (2 ^ k) ∙ combine-pow (λ i.
 pub product-pow_past : (columns : List ℕ) (k : ℕ) → length columns ≤ k → product columns (2 ^ k) ≡ 0
 product-pow_past columns k h = product-combine columns (2 ^ k) ∙ combine-pow_above (λ i. get_or columns i 0) (length columns) k h
 
--- where the first k columns have one bit each, in order, a number of k bits comes back
+-- if the first k columns have one bit each, in order, a number of k bits comes back
 pub product-units : (columns : List ℕ) (k x : ℕ) → k ≤ length columns → ((i : ℕ) → i < k → get_or columns i 0 ≡ 2 ^ i)
     → x < 2 ^ k → product columns x ≡ x
 product-units columns k x h units below =
@@ -211,7 +212,7 @@ product-take columns n x h =
     ∙ ap (λ k. combine (λ i. get_or (take n columns) i 0) k x) (length-take-le n columns h)
     ∙ combine-same (λ i. get_or (take n columns) i 0) (λ i. get_or columns i 0) n x (λ i below. get_or-take n columns i 0 below)
 
--- one bit more, as a loop over the bits meets it
+-- one more bit, as a loop over the bits meets it
 pub combine-taken : (f : ℕ → ℕ) (n x : ℕ) → bit_and (x / 2 ^ n) 1 ≡ 1 → combine f (n + 1) x ≡ bit_xor (combine f n x) (f n)
 combine-taken f n x h =
     ap (λ k. combine f k x) (add-one n)

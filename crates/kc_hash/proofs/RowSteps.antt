@@ -1,5 +1,5 @@
--- Row operations keep a reduction; where it ends at the identity the other matrix is the inverse, and where it stops there is
--- a number in the kernel.
+-- Row operations keep a reduction; if it ends at the identity, the other matrix is the inverse, and if it stops before,
+-- there is a number in the kernel.
 use Rattle.std.proofs.Common.{◌≡◌, ℕ, zero, suc, ◌+◌, ◌-◌, ◌*◌, ◌%◌, ◌^◌, ◌<◌, ◌≤◌, List, length, map, get_or, set, take, drop, ◌++◌, ◌/◌, below_more, ⊎_elim, refl, sym, ◌∙◌, ap, ap₂, subst, arith}
 use Rattle.std.specs.Int.{bit_at, w64, trailing_zeros}
 use Rattle.std.specs.Prelude.{bit_xor, bit_and}
@@ -174,7 +174,7 @@ identity_inverse bits =
     let undoes : Undoes (identity bits) (identity bits) = λ x h. ap (product (identity bits)) (same x h) ∙ same x h in
     record { same_bits = refl; stays = stays; stays_back = stays; undoes = undoes; undone = undoes }
 
--- the columns of the inverse are what it makes of the numbers with one bit
+-- the columns of the inverse are its products with the numbers with one bit
 pub hash_made : (matrix inverse : List ℕ) → AreInverse matrix inverse → IsHash matrix inverse
 hash_made matrix inverse both =
     let same : length inverse ≡ length matrix = both.same_bits in

@@ -1,4 +1,4 @@
--- What a refusal of a matrix tells.
+-- What an error for a matrix contains.
 use Rattle.std.specs.Prelude.{ℕ}
 use Rattle.kc_hash.specs.declared.hash.HashFault.{HashFault}
 use Rattle.kc_hash.specs.declared.hash.HashFault.TheVariants.{Singular}

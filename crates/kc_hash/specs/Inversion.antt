@@ -1,5 +1,5 @@
--- The matrix's array and the hash's inverse are found again from the columns that are seen. These are proofs, which
--- stand in `specs/` since the model of a type takes its names from there alone.
+-- The columns determine the matrix's array and the hash's inverse. These are proofs; they are in `specs/` because the
+-- model of a type takes its names only from there.
 use Rattle.std.specs.List.{find, range_with_len}
 use Rattle.std.proofs.Common.{◌≡◌, ℕ, zero, suc, ◌+◌, ◌-◌, ◌<◌, ◌≤◌, ◌^◌, ◌==◌, Bool, true, false, cond, Some}
 use Rattle.std.proofs.Common.{List, ◌++◌, length, take, get_or, replicate, unwrap_or, refl, sym, ◌∙◌, ap, ⊎_elim, arith}
@@ -43,7 +43,7 @@ padded-take bits columns m =
     ∙ sym (m.rest i outer))
     (cases_lt i bits))
 
--- the one number of a range that passes a test is found
+-- `find` returns the only number of a range that passes a test
 find-only : (p : ℕ → Bool) (a n w : ℕ) → a ≤ w → w < a + n → p w ≡ true → ((v : ℕ) → v < a + n → p v ≡ true → v ≡ w)
     → find p (range_with_len a n) ≡ Some w
 find-only p a zero w from to holds only = absurd (omega arith)

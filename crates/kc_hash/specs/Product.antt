@@ -1,17 +1,18 @@
--- A bit matrix of n columns as the list of its columns, each a number whose bits are the column's, and its product with
--- a number of n bits (Marçais and Kingsford 2011: a k-mer's bits, as a vector, are multiplied by an invertible matrix).
+-- A bit matrix of n columns is the list of its columns, each a number whose bits are the column's entries. It is
+-- multiplied by a number of n bits (Marçais and Kingsford 2011: a k-mer's bits, as a vector, are multiplied by an
+-- invertible matrix).
 use Rattle.std.specs.Prelude.{◌≡◌, refl, ℕ, ◌<◌, ◌^◌, List, [], ◌∷◌, length, map, ◌==◌, slice_index, bit_xor}
 use Rattle.std.specs.List.{filter, range_with_len}
 use Rattle.std.specs.Int.{bit_at}
 
--- the positions of the set bits of x among the lowest n, from the lowest up
+-- the positions of the set bits of x among the lowest n, in ascending order
 abbrev pub set_bits : ℕ → ℕ → List ℕ
 set_bits n x = filter (λ i. bit_at x i == 1) (range_with_len 0 n)
 
 set_bits_row : set_bits 6 0b101100 ≡ 2 ∷ 3 ∷ 5 ∷ []
 set_bits_row = refl
 
--- the xor of all these numbers, 0 where there are none
+-- the xor of these numbers, 0 if there are none
 abbrev pub xor_of : List ℕ → ℕ
 xor_of [] = 0
 xor_of (y ∷ ys) = bit_xor y (xor_of ys)
@@ -29,7 +30,7 @@ singular_row : product (1 ∷ 1 ∷ []) 3 ≡ 0
 unfolding product
 singular_row = refl
 
--- the matrix that leaves every number as it is: column i has bit i alone
+-- the identity matrix: column i has only bit i set
 unfoldable pub identity : ℕ → List ℕ
 identity n = map (λ i. 2 ^ i) (range_with_len 0 n)
 
@@ -41,7 +42,7 @@ identity_row = refl
 abbrev pub Undoes : List ℕ → List ℕ → Type 0
 Undoes columns other = (x : ℕ) → x < 2 ^ length columns → product other (product columns x) ≡ x
 
--- the two matrices have as many columns, their products stay below 2 ^ n, and each undoes the other
+-- the two matrices have equally many columns, their products stay below 2 ^ n, and each undoes the other
 pub record AreInverse (columns other : List ℕ) : Type 0 where
   pub same_bits : length other ≡ length columns
   pub stays : (x : ℕ) → x < 2 ^ length columns → product columns x < 2 ^ length columns
@@ -55,7 +56,7 @@ pub record IsInKernel (columns : List ℕ) (x : ℕ) : Type 0 where
   pub within : x < 2 ^ length columns
   pub to_zero : product columns x ≡ 0
 
--- 0 is the only number below 2 ^ n that the matrix maps to 0
+-- the matrix maps no number below 2 ^ n but 0 to 0
 abbrev pub IsNonsingular : List ℕ → Type 0
 IsNonsingular columns = (x : ℕ) → x < 2 ^ length columns → product columns x ≡ 0 → x ≡ 0
 
@@ -63,11 +64,11 @@ IsNonsingular columns = (x : ℕ) → x < 2 ^ length columns → product columns
 abbrev pub StaysBelow : List ℕ → Type 0
 StaysBelow columns = (x : ℕ) → x < 2 ^ length columns → product columns x < 2 ^ length columns
 
--- the matrix maps no two numbers below 2 ^ n to one
+-- the matrix maps different numbers below 2 ^ n to different numbers
 abbrev pub IsOneToOne : List ℕ → Type 0
 IsOneToOne columns =
     (x y : ℕ) → x < 2 ^ length columns → y < 2 ^ length columns → product columns x ≡ product columns y → x ≡ y
 
--- the matrix maps a number below 2 ^ n to each number below 2 ^ n
+-- each number below 2 ^ n is the product with a number below 2 ^ n
 abbrev pub IsOnto : List ℕ → Type 0
 IsOnto columns = (y : ℕ) → y < 2 ^ length columns → (x : ℕ) × (x < 2 ^ length columns) × (product columns x ≡ y)

@@ -1,21 +1,20 @@
--- The matrix that a seed gives. The numbers that SplitMix64 draws are defined in the kit's `rand_xoshiro`; which of
--- them are taken, and the 64 seeds that are tried, are this project's.
+-- The matrix of a seed. The kit's `rand_xoshiro` defines the numbers that SplitMix64 draws; which of them are used, and
+-- that 64 seeds are tried, is this project's own.
 use Rattle.std.specs.Prelude.{◌≡◌, refl, ℕ, ◌+◌, ◌-◌, ◌%◌, ◌^◌, ◌<◌, List, [], ◌∷◌, map}
 use Rattle.rand_core.specs.Steps.{first_words}
 use Rattle.rand_xoshiro.specs.SplitMix64.{mix_u64}
 use Rattle.kc_hash.specs.Product.{IsNonsingular}
 
--- the columns that a seed gives: the first numbers that SplitMix64 draws from this seed, one for each of the n bits, of
--- which the low n bits are kept
+-- the columns of a seed: the first n numbers that SplitMix64 draws from this seed, of which the low n bits are kept
 unfoldable pub seed_columns : ℕ → ℕ → List ℕ
 seed_columns bits seed = map (λ drawn. drawn % 2 ^ bits) (first_words mix_u64 bits seed)
 
--- the low bits of what another program of SplitMix64 draws
+-- the low bits of the numbers that another implementation of SplitMix64 draws
 seed_row : seed_columns 4 1 ≡ 1 ∷ 7 ∷ 14 ∷ 11 ∷ []
 unfolding seed_columns first_words
 seed_row = refl
 
--- the columns of the seed that is so many after the given one, which wraps at 2 ^ 64
+-- the columns of the seed `turn` after the given one; seeds wrap at 2 ^ 64
 abbrev pub turn_columns : ℕ → ℕ → ℕ → List ℕ
 turn_columns bits seed turn = seed_columns bits ((seed + turn) % 2 ^ 64)
 
@@ -23,6 +22,6 @@ turn_row : turn_columns 3 (2 ^ 64 - 1) 2 ≡ 1 ∷ 7 ∷ 6 ∷ []
 unfolding seed_columns first_words
 turn_row = refl
 
--- none of so many seeds from the given one on gives an invertible matrix
+-- none of `turns` seeds, from the given one on, has an invertible matrix
 abbrev pub NoneIsNonsingular : ℕ → ℕ → ℕ → Type 0
 NoneIsNonsingular bits seed turns = (turn : ℕ) → turn < turns → ¬ IsNonsingular (turn_columns bits seed turn)

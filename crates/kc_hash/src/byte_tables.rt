@@ -1,4 +1,4 @@
-//! A matrix in tables, for loops over many numbers.
+//! A matrix as tables, for loops over many numbers.
 
 ghost use Rattle.std.specs.Prelude.{◌≡◌, ℕ, ◌+◌, ◌^◌, ◌<◌, ◌≤◌, List, length, slice_index, bit_xor};
 ghost use Rattle.kc_hash.specs.Matrix.{AreBelow};
@@ -8,10 +8,10 @@ ghost use Rattle.kc_hash.specs.Tables.{AreTables};
 use crate::matrix::Matrix;
 use std::marker::Model;
 
-/// A matrix with its products with each byte at each of the eight byte positions of a number, so that a number is
-/// multiplied by eight look-ups.
+/// A matrix with its products with each byte at each of the eight byte positions of a number: multiplying a number
+/// takes eight look-ups.
 ///
-/// It has 17 KB: build it once for many numbers, and lend it. Contracts see it as the list of the matrix's columns.
+/// It has 17 KB: build it once for many numbers, and borrow it. In contracts it is the list of the matrix's columns.
 #[derive(Drop)]
 pub struct MatrixTables {
     matrix: Matrix,
@@ -27,13 +27,13 @@ impl Model for MatrixTables {
 }
 
 impl Matrix {
-    /// The matrix as eight tables, by which a number is multiplied byte by byte.
+    /// The matrix as eight tables, which multiply a number byte by byte.
     pub fn tables(&self) -> MatrixTables
         ensures { result ≡ self.now }
     {
         let mut tables = [[0; 256]; 8];
         for bit in 0..64 {
-            // Behind its columns a matrix has 0.
+            // After its columns a matrix has zeros.
             let column = self.columns.get(bit).copied().unwrap_or(0);
             // The products with the bytes that have this bit as their highest.
             add_column(&mut tables[bit / 8], 1 << (bit % 8), column);
@@ -45,7 +45,7 @@ impl Matrix {
     }
 }
 
-/// Writes behind the first `width` entries a copy of each, with the column added to it.
+/// Writes a copy of each of the first `width` entries after them, with the column added.
 fn add_column(table: &mut [u64; 256], width: usize, column: u64)
     requires { width ≤ 128 }
     ensures lower { (i : ℕ) → i < width → slice_index table.new i ≡ slice_index table.old i }

@@ -1,24 +1,24 @@
-//! The inverse of a matrix, by elimination: row operations, done to the matrix and to the identity side by
-//! side, make the columns of the matrix those of the identity, one after the other.
+//! The inverse of a matrix, by elimination: row operations on the matrix and on the identity, side by side, turn the
+//! columns of the matrix into those of the identity, one after another.
 
 ghost use Rattle.std.specs.Prelude.{ℕ, List};
 ghost use Rattle.kc_hash.specs.Product.{Undoes, AreInverse, IsInKernel, IsNonsingular};
 
 use crate::matrix::Matrix;
 
-/// The answer of an inversion: the inverse, or why there is none.
+/// The result of an inversion: the inverse, or why there is none.
 #[derive(Clone, Copy, Debug, PartialEq, Eq)]
 pub enum Inverse {
     /// The inverse of the matrix.
     Found(Matrix),
-    /// A number, not 0, that the matrix maps to 0; then it has no inverse.
+    /// A number other than 0 that the matrix maps to 0; then it has no inverse.
     Kernel(u64),
 }
 
 impl Matrix {
     ghost use Rattle.kc_hash.specs.Inverse.{IfFound, IfKernel};
 
-    /// The inverse of the matrix, or a number below `2^bits`, not 0, that it maps to 0.
+    /// The inverse of the matrix, or a number below `2^bits` other than 0 that it maps to 0.
     pub fn invert(&self) -> Inverse
         ensures found { IfFound result (AreInverse self.now) }
         ensures kernel { IfKernel result (IsInKernel self.now) }
@@ -31,10 +31,10 @@ impl Matrix {
         for index in 0..bits {
             let upper = reduced.columns[index as usize] >> index;
             if upper == 0 {
-                // The column has no bits but those of columns before it, each of which has one.
+                // The column has only bits of columns before it, each of which has one.
                 return Inverse::Kernel(reduced.columns[index as usize] ^ (1 << index));
             }
-            // The lowest row from `index` on that the column has a bit in; a later one is added to row `index`.
+            // The lowest row from `index` on in which the column has a bit; a later one is added to row `index`.
             let row = index + upper.trailing_zeros();
             if row != index {
                 reduced.add_row(row, 1 << index);

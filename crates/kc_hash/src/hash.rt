@@ -1,4 +1,4 @@
-//! The hash: an invertible matrix together with its inverse, and the laws of it.
+//! The hash: an invertible matrix together with its inverse, and its laws.
 
 ghost use Rattle.std.specs.Prelude.{◌≡◌, ℕ, ◌<◌, ◌^◌, List, length, IfOk, IfErr, IsErr};
 ghost use Rattle.kc_hash.specs.Matrix.{IsWidth};
@@ -27,8 +27,8 @@ const SEEDS: u64 = 64;
 
 /// An invertible linear map of the numbers of 1 to 62 bits: a matrix, kept with its inverse.
 ///
-/// Contracts see a hash as the list of its matrix's columns, so two hashes are equal where their matrices
-/// are. It has about 1 KB: lend it where it is not kept.
+/// In contracts a hash is the list of its matrix's columns, so two hashes are equal if their matrices are. It has about
+/// 1 KB: borrow it unless you keep it.
 #[derive(Clone, Copy, Debug)]
 pub struct Hash {
     matrix: Matrix,
@@ -50,9 +50,9 @@ impl Model for Hash {
 impl Hash {
     ghost use Rattle.kc_hash.specs.HashFault.{mapped_to_zero};
 
-    /// The hash of the first of 64 seeds, from `seed` on and wrapping, that gives an invertible matrix. A seed
-    /// gives the matrix whose columns are the first `bits` numbers of `SplitMix64::seed_from_u64`, low `bits`
-    /// bits kept. Where none of the 64 is invertible the hash leaves every number as it is.
+    /// The hash of the first of 64 seeds, from `seed` on and wrapping, whose matrix is invertible. The columns of a
+    /// seed's matrix are the first `bits` numbers of `SplitMix64::seed_from_u64`, of which the low `bits` bits are
+    /// kept. If none of the 64 matrices is invertible, the hash leaves every number unchanged.
     pub fn seeded(bits: u32, seed: u64) -> Hash
         requires { IsWidth bits }
         ensures first { (turn : ℕ) → turn < 64 → NoneIsNonsingular bits seed turn
@@ -72,7 +72,7 @@ impl Hash {
         }
     }
 
-    /// The hash by this matrix; refused where it has no inverse, with a number that it maps to 0.
+    /// The hash with this matrix; refused if it has no inverse, with a number that it maps to 0.
     pub fn of_matrix(matrix: Matrix) -> Result<Hash, HashFault>
         ensures matrix { IfOk result (λ hash. hash ≡ matrix) }
         ensures nonsingular { IfOk result (λ _. IsNonsingular matrix) }
@@ -93,14 +93,14 @@ impl Hash {
         self.matrix.bits
     }
 
-    /// A law: the hash is a permutation of the numbers of its bits. A hashed number has no more bits than the number,
+    /// A law: the hash is a permutation of the numbers of its bits. A hashed number has no more bits than the hash,
     /// different numbers have different hashed numbers, and each number is a hashed number.
     pub fn is_permutation(&self)
         ensures stays_below { StaysBelow self.now }
         ensures one_to_one { IsOneToOne self.now }
         ensures onto { IsOnto self.now }
     {
-        // What a hash keeps is known where it is read.
+        // Reading it makes the hash's invariant known.
         let _matrix = &self.matrix;
     }
 
@@ -147,7 +147,7 @@ impl PartialEq for Hash {
 
     ghost laws = { partial_equiv_from_equiv nat_list_eq_equiv };
 
-    /// Two hashes are equal where their matrices have the same columns.
+    /// Two hashes are equal if their matrices have the same columns.
     fn eq(&self, other: &Hash) -> bool {
         self.matrix.columns() == other.matrix.columns()
     }

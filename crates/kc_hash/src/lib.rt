@@ -1,8 +1,8 @@
-//! The invertible linear hash: a number of 1 to 62 bits is multiplied by an invertible matrix of bits, so that each
-//! number has a hashed number of its own, from which it is got back.
+//! The invertible linear hash: a number of 1 to 62 bits is multiplied by an invertible matrix of bits, so each number
+//! has a hashed number of its own, which determines it.
 //!
 //! [`Hash`] is such a matrix with its inverse, made from a seed or from a given [`Matrix`]. [`MatrixTables`] is a
-//! matrix as eight tables of 256, for loops over many numbers. [`Inverse`] is the answer of an inversion.
+//! matrix as eight tables of 256, for loops over many numbers. [`Inverse`] is the result of an inversion.
 //!
 //! ```ignore
 //! let y = hash.forward(x);    // for x below 2^bits

@@ -13,10 +13,10 @@ use rand_core::utils::NextWord;
 use rand_xoshiro::SplitMix64;
 use std::marker::Model;
 
-/// A square matrix of bits, with as many columns as the numbers have bits that it multiplies: 1 to 62.
+/// A square matrix of bits. It has as many columns, 1 to 62, as the numbers that it multiplies have bits.
 ///
-/// A column is a number; bit `i` of it is the column's entry in row `i`. Contracts see a matrix as the list
-/// of its columns, so two matrices are equal where their columns are.
+/// A column is a number; bit `i` of it is the column's entry in row `i`. In contracts a matrix is the list of its
+/// columns, so two matrices are equal if their columns are.
 #[derive(Clone, Copy, Debug)]
 pub struct Matrix {
     pub(crate) bits: u32,
@@ -39,8 +39,8 @@ impl Model for Matrix {
 }
 
 impl Matrix {
-    /// The matrix of these columns: the first `bits` entries. None where `bits` is not 1 to 62 or one of these
-    /// entries is `2^bits` or more. Later entries are not looked at.
+    /// The matrix of these columns: the first `bits` entries. None if `bits` is not 1 to 62 or one of these entries is
+    /// `2^bits` or more. Later entries are not looked at.
     pub fn of_columns(bits: u32, columns: [u64; 62]) -> Option<Matrix>
         ensures some { IsSome result ↔ (IsWidth bits × AreBelow bits columns) }
         ensures columns { IfSome result (λ m. m ≡ take bits columns) }
@@ -62,7 +62,7 @@ impl Matrix {
         })
     }
 
-    /// The matrix that leaves every number of so many bits as it is.
+    /// The identity matrix for numbers of so many bits.
     pub fn identity(bits: u32) -> Matrix
         requires { IsWidth bits }
         ensures { result ≡ identity bits }
@@ -74,8 +74,8 @@ impl Matrix {
         Matrix { bits, columns }
     }
 
-    /// The matrix that the seed gives: its columns are the first numbers that `SplitMix64` draws from this seed, low
-    /// `bits` bits kept.
+    /// The matrix of the seed: its columns are the first numbers that `SplitMix64` draws from it, of which the low
+    /// `bits` bits are kept.
     pub(crate) fn of_seed(bits: u32, seed: u64) -> Matrix
         requires { IsWidth bits }
         ensures { result ≡ seed_columns bits seed }
@@ -122,7 +122,7 @@ impl Matrix {
         sum
     }
 
-    /// Adds the row `row` to each of the rows that are the set bits of `rows`.
+    /// Adds row `row` to each row in `rows`, a set of bits.
     pub(crate) fn add_row(&mut self, row: u32, rows: u64)
         requires row_within { row < length self.old }
         requires rows_within { rows < 2 ^ length self.old }
@@ -145,7 +145,7 @@ impl PartialEq for Matrix {
 
     ghost laws = { partial_equiv_from_equiv nat_list_eq_equiv };
 
-    /// Two matrices are equal where their columns are.
+    /// Two matrices are equal if their columns are.
     fn eq(&self, other: &Matrix) -> bool {
         self.columns() == other.columns()
     }

@@ -1,11 +1,11 @@
--- Calls of a stream that were interrupted, and the one that was not or was the last that is borne.
+-- Calls of a stream that were interrupted, and the one that was not or was the last that is tolerated.
 use Rattle.std.proofs.Common.{◌≡◌, ◌∙◌, ℕ, ◌+◌, ◌-◌, ◌<◌, ◌≤◌, ◌^◌, ap, arith, inl, inr, ⊎_elim, refl, Some}
 use Rattle.std.proofs.Common.{Result}
 use Rattle.std.specs.Prelude.{IsErr}
 use Rattle.kc_io.specs.declared.failures.Failed.{Failed}
 use Rattle.kc_io.specs.Answers.{Calls, Hears, Settles, and_answer, and_interruption, most_tries}
 
--- So far each call was interrupted, and so many interruptions more are borne.
+-- So far each call was interrupted, and so many more interruptions are tolerated.
 pub record OnlyInterrupted (old now : Calls) (tries : ℕ) : Type 0 where
   pub interrupted : now.interrupted + tries ≡ old.interrupted + most_tries
   pub few : tries ≤ most_tries

@@ -1,4 +1,4 @@
--- What a stream tells of its bytes, over several calls.
+-- The bytes of a stream, if they are known, over several calls.
 use Rattle.std.proofs.Common.{ℕ, List, [], ◌++◌, Option, Some, None, refl, sym, ◌∙◌, ap, append_assoc, append-nil}
 use Rattle.std.specs.Io.KnownBytes.{Consumes, Appends, Keeps}
 

@@ -8,7 +8,7 @@ use Rattle.kc_io.specs.History.{History, is_end, after}
 use Rattle.kc_io.specs.Sinks.{Written, write_answer, HasTaken, HasBegun, Writes, Drains}
 use Rattle.kc_io.proofs.KnownBytesLemmas.{appends_nothing, appends_both, appends_kept}
 
--- Since the sink was as in start it took a front of the text, and the rest is left.
+-- Since the sink was as in start it took a prefix of the text, and the rest is left.
 pub record Pending (start now : Written) (text rest : List ℕ) : Type 0 where
   pub front : List ℕ
   pub whole : text ≡ front ++ rest
@@ -28,7 +28,7 @@ begin s text = record {
   taken = record { bytes = appends_nothing s.bytes; taken = sym (append-nil s.history.bytes); failures = refl };
 }
 
--- The sink took a text, which stood at the front of what was left.
+-- The sink took a text, which was at the front of what was left.
 pub took_front : (s a b : Written) (text x more : List ℕ) → Pending s a text (x ++ more) → HasTaken a b x → Pending s b text more
 took_front s a b text x more p w = record {
   front = p.front ++ x;
@@ -65,8 +65,8 @@ write_some h text n some =
     let moved : is_end n text ≡ false = grind (arith, nat_tests) in
     ap (λ b. after h (if b then Err (record {}) else Ok n) text) moved
 
--- A call in the midst of a text: the sink as it was at the start of the text, as the call finds it and as the call leaves
--- it, and what was left of the text before the call.
+-- A call in the middle of a text: the sink as it was at the start of the text, before the call and after it, and what
+-- was left of the text before the call.
 pub record SinkCall : Type 0 where
   pub start : Written
   pub now : Written
@@ -100,7 +100,7 @@ failed c kept same rose = record {
   failures = omega (arith, c.pending.taken.failures, rose);
 }
 
--- The sink took some of a block, in front of more.
+-- The sink took some of a block, with more after it.
 pub drained : (c : SinkCall) (block left more : List ℕ) → c.rest ≡ block ++ more → Drains c.now c.next block left
     → Pending c.start c.next c.text (left ++ more)
 drained c block left more whole d =

@@ -1,4 +1,4 @@
-//! Bytes gathered in a fixed array, so that a sink gets blocks and not single fields.
+//! Bytes gathered in a fixed array, so that a sink gets blocks instead of single fields.
 ghost use Rattle.std.specs.Prelude.{◌≡◌, ◌+◌, ◌≤◌, ◌<◌, ◌++◌, [], length, take, decimal, OnOk, OnErr};
 ghost use Rattle.kc_io.specs.Sinks.{HasBegun, Drains};
 
@@ -8,7 +8,7 @@ use crate::whole_texts::write_all;
 use itoa::Buffer;
 use std::marker::Model;
 
-/// How many bytes a block holds. The invariant of `Block` has the same number.
+/// How many bytes a block has room for. The invariant of `Block` has the same number.
 pub const BLOCK_SIZE: usize = 65_536;
 
 /// The most digits of a number of 64 bits.
@@ -63,7 +63,7 @@ impl Block {
         self.len = 0;
     }
 
-    /// Puts `bytes` behind those that are there.
+    /// Appends `bytes` to those that are there.
     #[inline(always)]
     pub fn push(&mut self, bytes: &[u8])
         requires room { length self.old + length bytes.now ≤ BLOCK_SIZE }
@@ -74,7 +74,7 @@ impl Block {
         self.len = end;
     }
 
-    /// Puts the first `count` of the bytes behind those that are there. All of them are copied, since a copy of a fixed
+    /// Appends the first `count` of the bytes to those that are there. All of them are copied, since a copy of a fixed
     /// size is fast. Condition: there is room for all.
     #[inline(always)]
     pub fn push_front<const N: usize>(&mut self, bytes: &[u8; N], count: usize)
@@ -89,7 +89,7 @@ impl Block {
 }
 
 impl Block {
-    /// Puts a number behind the bytes that are there, in decimal.
+    /// Appends a number to the bytes that are there, in decimal.
     #[inline(always)]
     pub fn push_number(&mut self, number: u64)
         requires room { length self.old + NUMBER_SIZE ≤ BLOCK_SIZE }
@@ -97,7 +97,7 @@ impl Block {
         ensures short { length self.new ≤ length self.old + NUMBER_SIZE }
     {
         if number < 100 {
-            // most counts are so small
+            // most counts are this small
             let (digits, count) = small_decimal(number as u8);
             self.push_front(&digits, count);
         } else {
@@ -105,7 +105,7 @@ impl Block {
         }
     }
 
-    // Puts a number behind the bytes that are there, in decimal, of however many digits.
+    // Appends a number to the bytes that are there, in decimal, however many digits it has.
     fn push_digits(&mut self, number: u64)
         requires room { length self.old + NUMBER_SIZE ≤ BLOCK_SIZE }
         ensures pushed { self.new ≡ self.old ++ decimal number }
@@ -115,10 +115,10 @@ impl Block {
         self.push(digits.format(number).as_bytes());
     }
 
-    /// Hands the bytes to the writer where there is no room for `count` more. Condition: a block has room for them.
+    /// Hands the bytes to the writer if there is no room for `count` more. Condition: a block has room for that many.
     ///
     /// # Errors
-    /// `Failed` where the writer failed or took no byte. It took a beginning of the bytes.
+    /// `Failed` if the writer failed or took no byte. It took a beginning of the bytes.
     #[inline(always)]
     pub fn make_room<W: Sink>(&mut self, writer: &mut W, count: usize) -> Result<(), Failed>
         requires { count ≤ BLOCK_SIZE }
@@ -134,8 +134,8 @@ impl Block {
     }
 }
 
-// The digits of a number that has one or two, and how many they are. Both are common among counts, in no order, and so
-// each way gives two bytes: that takes no branch.
+// The digits of a number that has one or two, and how many they are. Both are common among counts, in no order, so it
+// makes two bytes for either: that takes no branch.
 #[inline(always)]
 fn small_decimal(number: u8) -> ([u8; 2], usize)
     requires { number < 100 }

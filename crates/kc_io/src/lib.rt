@@ -1,9 +1,9 @@
 //! Bytes in and bytes out.
 //!
-//! A `Source` gives bytes and a `Sink` takes them. Proofs see of each its bytes, where these are known, and the
-//! history of what it answered, so that contracts cover streams whose bytes are not known too. `FromBytes` and
-//! `FromRead` make a source of a slice and of a reader of std; `ToVec` and `ToWrite` make a sink of a vector and of a
-//! writer of std. A call of std's that was interrupted is tried again and is no failure.
+//! A `Source` gives bytes and a `Sink` takes them. Proofs see the bytes of each, if they are known, and the history of
+//! its answers, so contracts also cover streams whose bytes are not known. `FromBytes` and `FromRead` make a source of
+//! a slice and of a reader of std; `ToVec` and `ToWrite` make a sink of a vector and of a writer of std. A call of std
+//! that is interrupted is repeated, and is no failure.
 //!
 //! `write_out` hands a text to a sink and flushes it, and `write_all` hands over a part of one. `Block` gathers small
 //! texts, so that the sink gets blocks of 64 KB:

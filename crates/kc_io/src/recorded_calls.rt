@@ -1,7 +1,7 @@
-//! Single calls of a reader or a writer of std, each of which goes into the history as it was answered.
+//! Single calls of a reader or a writer of std, each of which is recorded in the history with its result.
 //!
-//! What std's streams answer no contract tells. So `read`, `write` and `flush` below are to be read by eye: one call of
-//! the stream, what it came to, and its record. What the layers above do with the answers is proved over the record.
+//! No contract covers what std's streams answer. So `read`, `write` and `flush` below have to be reviewed by eye: one
+//! call of the stream, its result, and its record. What the layers above do with the results is proved from the record.
 ghost use Rattle.std.specs.Prelude.{◌≡◌, ◌≤◌, length, IfSome, IfOk, MatchOption};
 ghost use Rattle.std.specs.Io.KnownBytes.{ReadConsumes, WriteAppends, Keeps};
 ghost use Rattle.kc_io.specs.History.{no_history, after, after_flush};
@@ -13,7 +13,7 @@ use crate::histories::{Asked, Heard};
 use std::io;
 use std::io::{ErrorKind, Read, Write};
 
-/// A stream with the history of its calls. Nothing but these calls reaches the stream.
+/// A stream with the history of its calls. Only these calls reach the stream.
 #[derive(Drop)]
 pub struct Recorded<S> {
     stream: S,
@@ -21,12 +21,12 @@ pub struct Recorded<S> {
     asked: Asked,
     // how many more calls in a row may be interrupted before one is a failure
     tries: u64,
-    // of what kind the last error was that is no interruption
+    // the kind of the last error that is no interruption
     last_error: Option<ErrorKind>,
 }
 
 impl<S> Recorded<S> {
-    /// The stream, of which nothing was asked yet.
+    /// The stream, which was not called yet.
     pub fn new(stream: S) -> Recorded<S>
         ensures stream { result.stream ≡ stream }
         ensures heard { result.heard.history ≡ no_history }
@@ -42,7 +42,7 @@ impl<S> Recorded<S> {
         }
     }
 
-    /// Of what kind the last error of the stream's was that is no interruption; None where there was none.
+    /// The kind of the stream's last error that is no interruption; None if there was none.
     pub fn last_error(&self) -> Option<ErrorKind> {
         self.last_error
     }
@@ -63,7 +63,7 @@ impl<S> Recorded<S> {
 }
 
 impl<R: Read> Recorded<R> {
-    /// One read of the stream; None where it was interrupted and is to be tried again.
+    /// One read of the stream; None if it was interrupted and has to be repeated.
     pub fn read(&mut self, buffer: &mut [u8]) -> Option<Result<usize, Failed>>
         ensures bound { IfSome result (λ answer. IfOk answer (λ n. n ≤ length buffer.new)) }
         ensures bytes { MatchOption result (Keeps (R.remaining self.old.stream) (R.remaining self.new.stream))
@@ -81,14 +81,14 @@ impl<R: Read> Recorded<R> {
         ) else {
             return None;
         };
-        self.heard = self.heard.and(&answer, buffer);
+        self.heard = self.heard.with_answer(&answer, buffer);
         Some(answer)
     }
 }
 
 impl<W: Write> Recorded<W> {
-    /// One write to the stream; None where it was interrupted and is to be tried again. To take none of a text that has
-    /// bytes is to fail.
+    /// One write to the stream; None if it was interrupted and has to be repeated. It fails if it takes no byte of a
+    /// text that has bytes.
     pub fn write(&mut self, bytes: &[u8]) -> Option<Result<usize, Failed>>
         ensures bound { IfSome result (λ answer. IfOk answer (λ n. n ≤ length bytes.now)) }
         ensures bytes { MatchOption result (Keeps (W.contents self.old.stream) (W.contents self.new.stream))
@@ -112,11 +112,11 @@ impl<W: Write> Recorded<W> {
             Ok(n) => Ok(n),
             Err(Failed) => Err(Failed),
         };
-        self.heard = self.heard.and(&answer, bytes);
+        self.heard = self.heard.with_answer(&answer, bytes);
         Some(answer)
     }
 
-    /// One flush of the stream; None where it was interrupted and is to be tried again.
+    /// One flush of the stream; None if it was interrupted and has to be repeated.
     pub fn flush(&mut self) -> Option<Result<(), Failed>>
         ensures bytes { Keeps (W.contents self.old.stream) (W.contents self.new.stream) }
         ensures history { MatchOption result (self.new.heard.history ≡ self.old.heard.history)
@@ -132,13 +132,13 @@ impl<W: Write> Recorded<W> {
         ) else {
             return None;
         };
-        self.heard = self.heard.and_flush(&answer);
+        self.heard = self.heard.with_flush(&answer);
         Some(answer)
     }
 }
 
-// Settles one answer of std, and counts it: None where it is an interruption and `tries` allows one more. `last_error`
-// keeps of what kind any other error is.
+// Settles one answer of std, and counts it: None if it is an interruption and `tries` allows one more. `last_error`
+// keeps the kind of any other error.
 fn settle<T>(
     asked: &mut Asked,
     tries: &mut u64,
@@ -153,22 +153,22 @@ fn settle<T>(
     *tries = u64::MAX;
     match answer {
         Ok(value) => {
-            *asked = asked.and_answer();
+            *asked = asked.with_answer();
             Some(Ok(value))
         }
         Err(error) => match error.kind() {
             ErrorKind::Interrupted if left > 0 => {
-                *asked = asked.and_interruption();
+                *asked = asked.with_interruption();
                 *tries = left - 1;
                 None
             }
             ErrorKind::Interrupted => {
-                *asked = asked.and_interruption();
+                *asked = asked.with_interruption();
                 Some(Err(Failed))
             }
             kind => {
                 *last_error = Some(kind);
-                *asked = asked.and_answer();
+                *asked = asked.with_answer();
                 Some(Err(Failed))
             }
         },

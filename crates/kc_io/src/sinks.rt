@@ -11,30 +11,30 @@ use crate::recorded_calls::Recorded;
 use std::io::{ErrorKind, Write};
 use std::marker::Model;
 
-/// Whatever takes bytes. Proofs see the bytes written to it, where it tells them, and the history of its calls.
+/// Whatever takes bytes. Proofs see the bytes written to it, if they are known, and the history of its calls.
 pub trait Sink {
     ghost seen: { Self → Written };
 
-    /// Takes the first n of the bytes, where it answers Ok(n). To take none of a text that has bytes is a failure.
+    /// Takes the first n of the bytes, if it returns Ok(n). It fails if it takes no byte of a text that has bytes.
     ///
     /// # Errors
-    /// `Failed` where the write failed. No byte was taken.
+    /// `Failed` if the write failed. No byte was taken.
     fn write(&mut self, bytes: &[u8]) -> Result<usize, Failed>
         ensures within { IfOk result (λ n. n ≤ length bytes.now) }
         ensures appends { WriteAppends (seen self.old).bytes (seen self.new).bytes result bytes.now }
         ensures history { (seen self.new).history
             ≡ after (seen self.old).history (write_answer result bytes.now) bytes.now };
 
-    /// Hands on what was taken.
+    /// Passes on what was taken.
     ///
     /// # Errors
-    /// `Failed` where that failed.
+    /// `Failed` if that failed.
     fn flush(&mut self) -> Result<(), Failed>
         ensures keeps { Keeps (seen self.old).bytes (seen self.new).bytes }
         ensures history { (seen self.new).history ≡ after_flush (seen self.old).history result };
 }
 
-/// A sink over a vector, which tells its bytes. It fails where the vector can't grow.
+/// A sink over a vector, whose bytes are known. It fails if the vector can't grow.
 #[derive(Drop)]
 pub struct ToVec {
     bytes: Vec<u8>,
@@ -83,7 +83,7 @@ impl Sink for ToVec {
     /// Takes all of the bytes.
     ///
     /// # Errors
-    /// `Failed` where the growth was refused. No byte was taken.
+    /// `Failed` if the growth was refused. No byte was taken.
     fn write(&mut self, bytes: &[u8]) -> Result<usize, Failed>
         ensures within { IfOk result (λ n. n ≤ length bytes.now) }
         ensures appends { WriteAppends self.old.bytes self.new.bytes result bytes.now }
@@ -94,7 +94,7 @@ impl Sink for ToVec {
             Ok(()) => Ok(bytes.len()),
             Err(_) => Err(Failed),
         };
-        self.heard = self.heard.and(&answer, bytes);
+        self.heard = self.heard.with_answer(&answer, bytes);
         answer
     }
 
@@ -104,13 +104,13 @@ impl Sink for ToVec {
         ensures history { self.new.history ≡ after_flush self.old.history result }
         ensures ok { IsOk result }
     {
-        self.heard = self.heard.and_flush(&Ok(()));
+        self.heard = self.heard.with_flush(&Ok(()));
         Ok(())
     }
 }
 
-/// A sink over any writer of std. It tells its bytes where the writer does. A call that is interrupted is tried again;
-/// the 2^64th interruption in a row is a failure.
+/// A sink over any writer of std. Its bytes are known if the writer's are. A call that is interrupted is repeated; the
+/// 2^64th interruption in a row is a failure.
 #[derive(Drop)]
 pub struct ToWrite<W: Write> {
     recorded: Recorded<W>,
@@ -143,7 +143,7 @@ impl<W: Write> ToWrite<W> {
         }
     }
 
-    /// Of what kind the last error of the writer's was that is no interruption; None where there was none.
+    /// The kind of the writer's last error that is no interruption; None if there was none.
     pub fn last_error(&self) -> Option<ErrorKind> {
         self.recorded.last_error()
     }
@@ -162,7 +162,7 @@ impl<W: Write> Sink for ToWrite<W> {
     /// Writes until a write isn't interrupted.
     ///
     /// # Errors
-    /// `Failed` where the write failed, or took no byte though there were some, or 2^64 writes in a row were
+    /// `Failed` if the write failed, or took no byte although there were some, or 2^64 writes in a row were
     /// interrupted.
     fn write(&mut self, bytes: &[u8]) -> Result<usize, Failed>
         ensures within { IfOk result (λ n. n ≤ length bytes.now) }
@@ -182,7 +182,7 @@ impl<W: Write> Sink for ToWrite<W> {
     /// Flushes until a flush isn't interrupted.
     ///
     /// # Errors
-    /// `Failed` where the flush failed, or 2^64 flushes in a row were interrupted.
+    /// `Failed` if the flush failed, or 2^64 flushes in a row were interrupted.
     fn flush(&mut self) -> Result<(), Failed>
         ensures keeps { Keeps self.old.seen.bytes self.new.seen.bytes }
         ensures history { self.new.seen.history ≡ after_flush self.old.seen.history result }

@@ -11,22 +11,22 @@ use crate::recorded_calls::Recorded;
 use std::io::Read;
 use std::marker::Model;
 
-/// A source of bytes. Proofs see the bytes that it has left, where it tells them, and the history of its reads.
+/// A source of bytes. Proofs see the bytes that it has left, if they are known, and the history of its reads.
 pub trait Source {
     ghost seen: { Self → Seen };
 
-    /// Moves the next `n` bytes to the front of the buffer and answers `Ok(n)`; 0 only at the end or for an empty
+    /// Moves the next `n` bytes to the front of the buffer and returns `Ok(n)`; 0 only at the end or for an empty
     /// buffer.
     ///
     /// # Errors
-    /// `Failed` where the read failed. The bytes that are left stay.
+    /// `Failed` if the read failed. The bytes that are left are unchanged.
     fn read(&mut self, buffer: &mut [u8]) -> Result<usize, Failed>
         ensures bound { IfOk result (λ n. n ≤ length buffer.new) }
         ensures bytes { ReadConsumes (seen self.old).left (seen self.new).left result buffer.new }
         ensures history { (seen self.new).history ≡ after (seen self.old).history result buffer.new };
 }
 
-/// A source that reads from a slice, and tells its bytes. It never fails.
+/// A source that reads from a slice, whose bytes are known. It never fails.
 #[derive(Drop)]
 pub struct FromBytes<'a> {
     left: &'a [u8],
@@ -78,13 +78,13 @@ impl Source for FromBytes<'_> {
         let (front, rest) = self.left.split_at(count);
         buffer[..count].copy_from_slice(front);
         self.left = rest;
-        self.heard = self.heard.and(&Ok(count), buffer);
+        self.heard = self.heard.with_answer(&Ok(count), buffer);
         Ok(count)
     }
 }
 
-/// A source over any reader of std. It tells its bytes where the reader does. A read that is interrupted is tried
-/// again; the 2^64th interruption in a row is a failure.
+/// A source over any reader of std. Its bytes are known if the reader's are. A read that is interrupted is repeated;
+/// the 2^64th interruption in a row is a failure.
 #[derive(Drop)]
 pub struct FromRead<R: Read> {
     recorded: Recorded<R>,
@@ -124,7 +124,7 @@ impl<R: Read> Source for FromRead<R> {
     /// Reads until a read isn't interrupted.
     ///
     /// # Errors
-    /// `Failed` where the read failed, or 2^64 reads in a row were interrupted.
+    /// `Failed` if the read failed, or 2^64 reads in a row were interrupted.
     fn read(&mut self, buffer: &mut [u8]) -> Result<usize, Failed>
         ensures bound { IfOk result (λ n. n ≤ length buffer.new) }
         ensures bytes { ReadConsumes self.old.seen.left self.new.seen.left result buffer.new }

@@ -8,7 +8,7 @@ use crate::sinks::Sink;
 /// Hands all of the bytes to the writer, which may keep them until it is flushed.
 ///
 /// # Errors
-/// `Failed` where the writer failed or took no byte. It took a beginning of the bytes.
+/// `Failed` if the writer failed or took no byte. It took a beginning of the bytes.
 pub fn write_all<W: Sink>(writer: &mut W, bytes: &[u8]) -> Result<(), Failed>
     ensures handed_over { HandsOver (W.seen writer.old) (W.seen writer.new) result bytes.now }
     ensures unflushed { (W.seen writer.new).history.flushed ≡ (W.seen writer.old).history.flushed }
@@ -27,10 +27,10 @@ pub fn write_all<W: Sink>(writer: &mut W, bytes: &[u8]) -> Result<(), Failed>
     Ok(())
 }
 
-/// Writes the bytes: hands all of them to the writer, and has it hand on what it took.
+/// Writes the bytes: hands all of them to the writer, and flushes it.
 ///
 /// # Errors
-/// `Failed` where the writer failed or took no byte, or could not hand them on. It took a beginning of the bytes.
+/// `Failed` if the writer failed or took no byte, or could not be flushed. It took a beginning of the bytes.
 pub fn write_out<W: Sink>(writer: &mut W, bytes: &[u8]) -> Result<(), Failed>
     ensures { Writes (W.seen writer.old) (W.seen writer.new) result bytes.now }
 {

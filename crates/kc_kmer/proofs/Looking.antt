@@ -38,7 +38,7 @@ pub record BaseLook (read : Read) : Type 0 where
   pub bases_are : bases ≡ read.bases
   pub found_is : found ≡ cond (is_base (to_ascii_uppercase (get_or bases index 0))) (code (to_ascii_uppercase (get_or bases index 0))) 4
 
--- whether the code says that it is a base
+-- whether the code is that of a base
 known-base : (read : Read) (s : BaseLook read) → not (eqb s.found 4) ≡ is_base (to_ascii_uppercase (get_or read.bases s.index 0))
 known-base read s = known-is (get_or s.bases s.index 0) s.found s.found_is ∙ ap (λ xs. is_base (to_ascii_uppercase (get_or xs s.index 0))) s.bases_are
 
@@ -61,14 +61,14 @@ usable-some rule read s quals some =
     ap (λ b. b && leb rule.floor (get_or quals s.index 0)) (known-base read s)
     ∙ ap (λ o. is_base (to_ascii_uppercase (get_or read.bases s.index 0)) && passes_floor rule.floor o s.index) some
 
--- where its code is one of a base, the quality decides
+-- if its code is one of a base, the quality decides
 pub usable-known : (rule : CountingRule) (read : Read) (s : BaseLook read) (quals : List ℕ) (floor : ℕ) → Some quals ≡ read.quals → floor ≡ rule.floor
     → (s.found ≡ 4 → ⊥) → leb floor (get_or quals s.index 0) ≡ is_usable rule read s.index
 usable-known rule read s quals floor some level known =
     ap (λ n. leb n (get_or quals s.index 0)) level ∙ sym (ap (λ b. b && leb rule.floor (get_or quals s.index 0)) (ap not (ne_eqb s.found 4 known)))
     ∙ usable-some rule read s quals some
 
--- where it is not, the base is not usable
+-- if it is not, the base is not usable
 pub usable-unknown : (rule : CountingRule) (read : Read) (s : BaseLook read) (quals : List ℕ) → Some quals ≡ read.quals → s.found ≡ 4
     → not (eqb s.found 4) ≡ is_usable rule read s.index
 usable-unknown rule read s quals some unknown =
@@ -90,7 +90,7 @@ usable-more rule read p index h all this =
     more : index + 1 - p ≡ index - p + 1
     more = omega (arith, h)
 
--- where a base is not usable, or the read ends before, there is no word
+-- if a base is not usable, or the read ends before, there is no word
 pub form_at-broken : (rule : CountingRule) (read : Read) (p index : ℕ) → p ≤ index → index < p + rule.k → is_usable rule read index ≡ false
     → form_at rule read p ≡ None
 unfolding form_at word_at
@@ -108,7 +108,7 @@ form_at-past rule read p h =
     ap (option_map (form rule.both)) (cond-false _ (Some (map to_ascii_uppercase (take rule.k (drop p read.bases)))) None
     (and_left _ (list_all (λ j. is_usable rule read j) (range_with_len p rule.k)) (lt-leb (p + rule.k) (length read.bases) h)))
 
--- where all are usable, the k bases are a word, and it counts under its form
+-- if all are usable, the k bases are a word, and it counts under its form
 pub record HoldsWord (rule : CountingRule) (read : Read) (p : ℕ) (window : List ℕ) : Type 0 where
   pub long : length window ≡ rule.k
   pub bases : are_bases (map to_ascii_uppercase window) ≡ true
@@ -154,14 +154,14 @@ pub counted-one : (rule : CountingRule) (b : Bool) (word letters : List ℕ) →
 unfolding form
 counted-one rule b word letters same h e = e ∙ sym (cond-false rule.both (canonical letters) letters (sym same ∙ h))
 
--- what `pack` gives of the window of a position that holds a word
+-- what `pack` returns for the window of a position with a word
 pub word-packed : {window : List ℕ} (rule : CountingRule) (read : Read) (p k m : ℕ) → HoldsWord rule read p window → k ≡ rule.k
     → text k m ≡ map to_ascii_uppercase window → form_at rule read p ≡ Some (form rule.both (text rule.k m))
 word-packed rule read p k m held same e = held.counted ∙ ap (λ w. Some (form rule.both w)) (sym e ∙ ap (λ j. text j m) same)
 
 -- ---- all positions of a read
 
--- the word that is found is the one that is looked for where their numbers are one
+-- the word that is found is the one that is looked for if their numbers are one
 pub stands-some : (rule : CountingRule) (read : Read) (p found n : ℕ) → n < 4 ^ rule.k → found < 4 ^ rule.k
     → counted_at rule read p ≡ Some (text rule.k found) → eqb found n ≡ counts_under rule read (text rule.k n) p
 stands-some rule read p found n h below here =
@@ -224,7 +224,7 @@ pub IsSummedTo-none : (rule : CountingRule) (word : List ℕ) → IsSummedTo rul
 unfolding occurrences
 IsSummedTo-none rule word = record { value = refl; most = omega arith }
 
--- one read more, at an index, and how often the word stands in it
+-- one more read, at an index, and how often the word occurs in it
 pub record ReadStep (rule : CountingRule) (reads : List Read) (word : List ℕ) : Type 0 where
   pub index : ℕ
   pub read : Read

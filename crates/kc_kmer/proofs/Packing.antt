@@ -36,7 +36,7 @@ IsPacked-fits bytes i n h most p =
     let value = p.value in
     omega (arith, value, below, power)
 
--- what the code of a byte says: below 4 the byte is a base, and this is its code
+-- the meaning of a byte's code: below 4 the byte is a base, and this is its code
 pub code-found : (byte c : ℕ) → c ≡ cond (is_base (to_ascii_uppercase byte)) (code (to_ascii_uppercase byte)) 4 → c ≢ 4 → (is_base (to_ascii_uppercase byte) ≡ true) × (c ≡ code (to_ascii_uppercase byte))
 code-found byte c e ne =
     ⊎_elim (λ h. (h, e ∙ cond-true _ _ _ h)) (λ h. absurd (ne (e ∙ cond-false _ _ _ h))) (cases_Bool (is_base (to_ascii_uppercase byte)))

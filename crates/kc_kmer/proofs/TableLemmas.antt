@@ -1,4 +1,4 @@
--- The tables of the letters: what they hold at each byte.
+-- The tables of the letters: their entry for each byte.
 use Rattle.std.proofs.Common.{◌≡◌, ℕ, ◌<◌, List, map, get_or, sym, ap, ◌∙◌, arith}
 use Rattle.std.proofs.lemmas.List.FromFn.{get_or-map-range_with_len}
 use Rattle.std.specs.List.{range_with_len}

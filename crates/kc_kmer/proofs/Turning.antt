@@ -1,4 +1,5 @@
--- How a word is read from the other strand by shifts and masks: its bits are complemented and taken backwards, and the two bits of each base change places.
+-- How a word is read from the other strand by shifts and masks: its bits are complemented and taken backwards, and the
+-- two bits of each base change places.
 use Rattle.std.proofs.Common.{◌≡◌, ℕ, zero, suc, ◌+◌, ◌-◌, ◌*◌, ◌/◌, ◌%◌, ◌^◌, ◌<◌, ◌≤◌, true, eqb, refl, ap, sym, ◌∙◌, subst, arith, lit<, bit_and, bit_or, eqb-true, mod-eq_of_lt}
 use Rattle.std.proofs.Math.Nat.{pow-le-pow_right}
 use Rattle.std.proofs.lemmas.Bool.{agree_below_at}
@@ -110,7 +111,7 @@ bit_at-swapped_even n j h =
         let odd = bit_at-low_bits-odd i (omega (arith, l)) in
         omega (arith, index, double, both, odd)
 
--- digit j of the turned number is 3 less the digit that stands as far from the other end
+-- digit j of the reverse complement is 3 minus the digit that is as far from the other end
 digit-swapped : (n j i : ℕ) → n < 2 ^ 64 → j + suc i ≡ 32 → digit (swapped_pairs (backwards n)) j ≡ 3 - digit n i
 digit-swapped n j i h e =
     let turned = digit-bits (swapped_pairs (backwards n)) j in

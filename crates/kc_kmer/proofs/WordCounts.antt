@@ -1,4 +1,5 @@
--- The words of reads: that they are below 4 ^ k and in the forms under which they count, that occurrences are counts in their list, and how many there are.
+-- The words of reads: that they are below 4 ^ k and in the forms under which they count, that occurrences are counts in
+-- their list, and how many there are.
 use Rattle.std.proofs.Common.{◌≡◌, ℕ, zero, suc, ◌+◌, ◌^◌, ◌<◌, ◌≤◌, ⊎_elim, Bool, true, false, ◌&&◌, cond, eqb, leb, List, [], ◌∷◌, ◌++◌, map, length, get_or, take, drop, Option, Some, None, option_map, filter_map, sum_by, count_by, MatchOption, All, refl, ap, sym, ◌∙◌, subst, arith, eq-eqb, ne_eqb, zero-add}
 use Rattle.std.proofs.lemmas.Bool.{false_from_ne_true, cases_eq, and_parts, and_from, leb-true}
 use Rattle.std.proofs.lemmas.List.{length-map, length-take-le, length-drop, drop_more, length-append}
@@ -91,9 +92,9 @@ counted_at-IsWord rule read p = by (counted_at rule read p) (counted_at-IsForm r
     by None form = tt
     by (Some word) form = form.is
 
--- ---- the words of reads are below 4 ^ k, and stand in the form under which they count
+-- ---- the words of reads are below 4 ^ k, and are in the form under which they count
 
--- what holds of the number of each word in its form holds of the words of reads
+-- what holds for the number of each word in its form holds for the words of reads
 all-in : (rule : CountingRule) (P : ℕ → Type 0) → ((word : List ℕ) → IsForm rule word → P (number word)) → (read : Read) → All P (words_in rule read)
 unfolding words_in
 all-in rule P holds read =
@@ -119,7 +120,7 @@ All-words_in rule read = all-in rule (λ n. n < 4 ^ rule.k) (number-below rule) 
 pub All-words_of : (rule : CountingRule) (reads : List Read) → All (λ n. n < 4 ^ rule.k) (words_of rule reads)
 All-words_of rule reads = all-of rule (λ n. n < 4 ^ rule.k) (number-below rule) reads
 
--- each word of reads stands in the form under which it counts
+-- each word of reads is in the form under which it counts
 pub All-forms : (rule : CountingRule) (reads : List Read) → All (λ n. form rule.both (text rule.k n) ≡ text rule.k n) (words_of rule reads)
 All-forms rule reads =
     all-of rule (λ n. form rule.both (text rule.k n) ≡ text rule.k n) (λ word h.
@@ -127,7 +128,7 @@ All-forms rule reads =
 
 -- ---- occurrences are counts in the list of all words
 
--- how often a number stands in a list
+-- how often a number occurs in a list
 abbrev pub times : ℕ → List ℕ → ℕ
 times n xs = count_by (λ m. eqb m n) xs
 
@@ -155,7 +156,7 @@ times-words_in : (rule : CountingRule) (read : Read) (n : ℕ) → n < 4 ^ rule.
 unfolding words_in occurrences_in
 times-words_in rule read n h = times-filter_map rule.k n (counted_at rule read) h (counted_at-IsWord rule read) (positions rule read)
 
--- a word occurs as often as its number stands in the list of all words
+-- a word occurs as often as its number does in the list of all words
 pub times-words_of : (rule : CountingRule) (reads : List Read) (n : ℕ) → n < 4 ^ rule.k → times n (words_of rule reads) ≡ occurrences rule reads (text rule.k n)
 unfolding words_of occurrences
 times-words_of rule [] n h = refl

@@ -1,4 +1,5 @@
--- Words and their numbers: a word is its number's text, a number below 4 ^ k is its text's number, and both keep the order.
+-- Words and their numbers: a word is its number's text, a number below 4 ^ k is its text's number, and both keep the
+-- order.
 use Rattle.std.proofs.Common.{◌≡◌, ℕ, zero, suc, ◌+◌, ◌*◌, ◌/◌, ◌%◌, ◌^◌, ◌<◌, ◌≤◌, Bool, true, false, ◌&&◌, cond, eqb, ltb, List, [], ◌∷◌, ◌++◌, map, reverse, length, min, get_or, take, refl, ap, sym, ◌∙◌, subst, arith, ⊎_elim, pow-suc, lit<}
 use Rattle.std.proofs.lemmas.Bool.{eqb-true, or_cases, cases_order, cond-true, cond-false, cond_both, cases_lt, lt-ltb, le-ltb, ltb-true, ltb-false, and_parts, and_from}
 use Rattle.std.proofs.lemmas.List.{map_push, length_push, length-map, length-reverse, take_more, take_all, nil_from_length, length-take-le, reverse-append, reverse-reverse}
@@ -24,7 +25,7 @@ below_four P a b c d (suc (suc zero)) h = c
 below_four P a b c d (suc (suc (suc zero))) h = d
 below_four P a b c d (suc (suc (suc (suc n)))) h = absurd (omega arith)
 
--- what holds of the four letters holds of each base
+-- what holds for the four letters holds for each base
 pub at_base : (P : ℕ → Type 0) → P adenine → P cytosine → P guanine → P thymine → (byte : ℕ) → is_base byte ≡ true → P byte
 unfolding is_base
 at_base P a c g t byte h =

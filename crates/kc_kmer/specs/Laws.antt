@@ -1,4 +1,4 @@
--- What holds of words and their occurrences, whatever the reads are.
+-- Facts about words and their occurrences, for all reads.
 use Rattle.std.specs.Prelude.{◌≡◌, ℕ, ◌+◌, ◌^◌, ◌<◌, ◌≤◌, ◌==◌, List, ◌++◌, map, filter, length, count_by, IsTrue, All}
 use Rattle.std.specs.Prelude.{if◌then◌else◌}
 use Rattle.std.specs.Char.{to_ascii_uppercase}
@@ -14,8 +14,7 @@ use Rattle.kc_kmer.specs.Occurrences.{occurrences, words_of}
 abbrev pub NumberOfText : Type 0
 NumberOfText = (k n : ℕ) → n < 4 ^ k → number (text k n) ≡ n
 
--- the letters of a word below 4 ^ k are bases, and no other word below 4 ^ k has them: `pack` of what `text` writes
--- is the word
+-- the letters of a word below 4 ^ k are bases, and no other word below 4 ^ k has them: `pack` inverts `text`
 abbrev pub PackedText : Type 0
 PackedText = (k n : ℕ) → n < 4 ^ k → IsTrue (are_bases (map to_ascii_uppercase (text k n)))
     × ((m : ℕ) → m < 4 ^ k → text k m ≡ map to_ascii_uppercase (text k n) → m ≡ n)
@@ -24,25 +23,25 @@ PackedText = (k n : ℕ) → n < 4 ^ k → IsTrue (are_bases (map to_ascii_upper
 abbrev pub OrderOfTexts : Type 0
 OrderOfTexts = (k m n : ℕ) → m < 4 ^ k → n < 4 ^ k → slice_cmp nat_cmp (text k m) (text k n) ≡ nat_cmp m n
 
--- read back from the other strand twice, a word is itself
+-- the reverse complement of the reverse complement is the word itself
 abbrev pub ReversedTwice : Type 0
 ReversedTwice = (k n : ℕ) → reverse_complement (reverse_complement (text k n)) ≡ text k n
 
--- a word and its reverse complement have one canonical form
+-- a word and its reverse complement have the same canonical form
 abbrev pub OneCanonicalForm : Type 0
 OneCanonicalForm = (k n : ℕ) → canonical (reverse_complement (text k n)) ≡ canonical (text k n)
 
--- in reads that are joined each word occurs as often as in both parts together
+-- in joined reads each word occurs as often as in both parts together
 abbrev pub JoinedOccurrences : Type 0
 JoinedOccurrences = (rule : CountingRule) (reads more : List Read) (word : List ℕ)
     → occurrences rule (reads ++ more) word ≡ occurrences rule reads word + occurrences rule more word
 
--- a word below 4 ^ k occurs as often as its number stands among the words of the reads
+-- a word below 4 ^ k occurs as often as its number does among the words of the reads
 abbrev pub CountedWords : Type 0
 CountedWords = (rule : CountingRule) (reads : List Read) (n : ℕ) → n < 4 ^ rule.k
     → count_by (λ m. m == n) (words_of rule reads) ≡ occurrences rule reads (text rule.k n)
 
--- a word that is listed occurs as often as it does without the list, and every other word 0 times
+-- a listed word occurs as often as it does without the list, and every other word 0 times
 abbrev pub ListedOccurrences : Type 0
 ListedOccurrences = (rule : CountingRule) (reads : List Read) (word : List ℕ) → occurrences rule reads word
     ≡ (if is_listed rule.only (number word) then occurrences (without_list rule) reads word else 0)
@@ -56,7 +55,7 @@ ListedWords = (rule : CountingRule) (reads : List Read)
 abbrev pub WordsAreBelow : Type 0
 WordsAreBelow = (rule : CountingRule) (reads : List Read) → All (λ word. word < 4 ^ rule.k) (words_of rule reads)
 
--- each word of the reads stands in the form under which it counts
+-- each word of the reads is in the form under which it counts
 abbrev pub WordsAreForms : Type 0
 WordsAreForms = (rule : CountingRule) (reads : List Read)
     → All (λ word. form rule.both (text rule.k word) ≡ text rule.k word) (words_of rule reads)

@@ -1,6 +1,6 @@
 -- The four bases of DNA: their letters, their codes and their partners on the other strand.
--- Source: the two-bit codes A 0, C 1, G 2, T 3 of the Jellyfish paper (Marçais and Kingsford 2011); Watson and
--- Crick's pairs A T and C G.
+-- Source: the two-bit codes A 0, C 1, G 2, T 3 of the Jellyfish paper (Marçais and Kingsford 2011); Watson and Crick's
+-- pairs A T and C G.
 use Rattle.std.specs.Prelude.{ℕ, Bool, ◌==◌, ◌||◌, List, if◌then◌else◌}
 use Rattle.std.specs.List.{list_all}
 
@@ -21,7 +21,7 @@ thymine = 84
 unfoldable pub is_base : ℕ → Bool
 is_base byte = byte == adenine || byte == cytosine || byte == guanine || byte == thymine
 
--- whether each byte is
+-- whether all bytes are
 abbrev pub are_bases : List ℕ → Bool
 are_bases bytes = list_all is_base bytes
 
@@ -29,11 +29,11 @@ are_bases bytes = list_all is_base bytes
 unfoldable pub code : ℕ → ℕ
 code base = if base == adenine then 0 else (if base == cytosine then 1 else (if base == guanine then 2 else 3))
 
--- the base of a code
+-- the base that has a code
 unfoldable pub base : ℕ → ℕ
 base n = if n == 0 then adenine else (if n == 1 then cytosine else (if n == 2 then guanine else thymine))
 
--- the base that stands opposite on the other strand
+-- the base opposite, on the other strand
 unfoldable pub complement : ℕ → ℕ
 complement letter =
     if letter == adenine then thymine

@@ -1,4 +1,4 @@
--- Where a word stands in reads, and how often.
+-- Where a word occurs in reads, and how often.
 -- Source: the k-mers of a read and their counts, Marçais and Kingsford 2011; usable bases, the Jellyfish user guide.
 use Rattle.std.specs.Prelude.{ℕ, Bool, true, false, ◌+◌, ◌-◌, ◌&&◌, nat_le, List, length, map, take, drop}
 use Rattle.std.specs.Prelude.{slice_index, Option, None, Some, if◌then◌else◌, sum_by, count_by}
@@ -11,7 +11,7 @@ use Rattle.kc_kmer.specs.Letter.{is_base}
 use Rattle.kc_kmer.specs.Word.{number, form}
 use Rattle.kc_kmer.specs.Rule.{CountingRule, is_listed}
 
--- whether the quality byte of base j, where there is one, is at least the floor
+-- whether the quality byte of base j is at least the floor; true for a read without qualities
 abbrev pub passes_floor : ℕ → Option (List ℕ) → ℕ → Bool
 passes_floor floor None j = true
 passes_floor floor (Some quals) j = nat_le floor (slice_index quals j)
@@ -20,7 +20,7 @@ passes_floor floor (Some quals) j = nat_le floor (slice_index quals j)
 unfoldable pub is_usable : CountingRule → Read → ℕ → Bool
 is_usable rule read j = is_base (to_ascii_uppercase (slice_index read.bases j)) && passes_floor rule.floor read.quals j
 
--- the word at position p: the k bases from p on in upper case, where the read has them and all are usable
+-- the word at position p: the k bases from p on, in upper case, if the read has them and all are usable
 unfoldable pub word_at : CountingRule → Read → ℕ → Option (List ℕ)
 word_at rule read p =
     if nat_le (p + rule.k) (length read.bases) && list_all (λ j. is_usable rule read j) (range_with_len p rule.k)
@@ -31,15 +31,15 @@ word_at rule read p =
 unfoldable pub form_at : CountingRule → Read → ℕ → Option (List ℕ)
 form_at rule read p = option_map (form rule.both) (word_at rule read p)
 
--- a word that is listed, and none in place of one that is not
+-- the word if it is listed, otherwise None
 abbrev pub where_listed : Option (List ℕ) → List ℕ → Option (List ℕ)
 where_listed only word = if is_listed only (number word) then Some word else None
 
--- the form under which position p counts, if it does: where a list is given, only its words count
+-- the form under which position p counts, if it counts; with a list, only listed words count
 unfoldable pub counted_at : CountingRule → Read → ℕ → Option (List ℕ)
 counted_at rule read p = option_and_then (where_listed rule.only) (form_at rule read p)
 
--- how many positions n bases have: the words of k bases begin at 0 to n - k
+-- how many positions n bases have: words of k bases begin at 0 to n - k
 abbrev pub position_count : ℕ → ℕ → ℕ
 position_count k n = n + 1 - k
 
@@ -63,6 +63,6 @@ occurrences rule reads word = sum_by (λ read. occurrences_in rule read word) re
 unfoldable pub words_in : CountingRule → Read → List ℕ
 words_in rule read = filter_map (λ p. option_map number (counted_at rule read p)) (positions rule read)
 
--- the same for all reads, one after another
+-- the same for all reads, in order
 unfoldable pub words_of : CountingRule → List Read → List ℕ
 words_of rule reads = flat_map (λ read. words_in rule read) reads

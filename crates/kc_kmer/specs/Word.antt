@@ -10,19 +10,19 @@ use Rattle.kc_kmer.specs.Letter.{code, base, complement}
 unfoldable pub number : List ℕ → ℕ
 number word = number_from_digits 4 (map code word)
 
--- the word of k bases that has this number: the last base is the lowest digit
+-- the word of k bases with this number: the last base is the lowest digit
 unfoldable pub text : ℕ → ℕ → List ℕ
 text zero n = []
 text (suc k) n = text k (n / 4) ++ base (n % 4) ∷ []
 
--- the word as the other strand reads it: backwards, each base complemented
+-- the word on the other strand: reversed, each base complemented
 unfoldable pub reverse_complement : List ℕ → List ℕ
 reverse_complement word = reverse (map complement word)
 
--- the word or its reverse complement, whichever comes first in the alphabet
+-- the word or its reverse complement, whichever is first in alphabetical order
 unfoldable pub canonical : List ℕ → List ℕ
 canonical word = if is_lt (slice_cmp nat_cmp (reverse_complement word) word) then reverse_complement word else word
 
--- the form under which a word counts: the canonical one where both strands count
+-- the form under which a word counts: the canonical one if both strands count
 unfoldable pub form : Bool → List ℕ → List ℕ
 form both word = if both then canonical word else word

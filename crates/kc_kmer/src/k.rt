@@ -24,13 +24,13 @@ impl Model for K {
 
 impl K {
     /// The greatest length of a word.
-    pub const MOST: u32 = 31;
+    pub const MAX: u32 = 31;
 
-    /// A length of `n` bases, where `n` is 1 to 31.
+    /// A length of `n` bases, if `n` is 1 to 31.
     pub fn new(n: u32) -> Option<K>
         ensures { SomeIff result ((1 ≤ n) × (n ≤ 31)) n }
     {
-        if n < 1 || n > K::MOST {
+        if n < 1 || n > K::MAX {
             return None;
         }
         Some(K { bases: n })
@@ -45,7 +45,7 @@ impl K {
         self.bases
     }
 
-    /// How many positions so many bases have: the words begin at 0 to n - k.
+    /// How many positions `count` bases have: words begin at 0 to n - k.
     pub fn positions(self, count: usize) -> usize
         ensures value { result ≡ position_count self count }
         ensures most { result ≤ count }

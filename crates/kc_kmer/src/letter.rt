@@ -3,7 +3,7 @@ ghost use Rattle.std.specs.Prelude.{◌≡◌, ◌<◌, if◌then◌else◌};
 ghost use Rattle.std.specs.Char.{to_ascii_uppercase};
 ghost use Rattle.kc_kmer.specs.Letter.{is_base, code, base};
 
-/// What `code_of` gives of a byte that is no base: greater than every code.
+/// What `code_of` returns for a byte that is no base: greater than every code.
 pub const NO_BASE: u8 = 4;
 
 // the code at the letters of the bases in either case, and NO_BASE elsewhere

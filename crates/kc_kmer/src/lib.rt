@@ -1,9 +1,9 @@
-//! DNA k-mers (words of length k): their letters, their numbers and forms, and where they stand in reads.
+//! DNA k-mers (words of length k): their letters, their numbers and forms, and where they occur in reads.
 //!
-//! A `Rule` says how words are counted: their length `K`, one strand or both, and the least quality of a base. A
-//! `Word` is a word as a number, two bits a base; `pack` and `text` go between it and its letters, and `canonical`
-//! gives the form under which it counts where both strands do. `letter` has the codes of bases, `slow_count` counts
-//! straight from the definitions, and `word_laws` says what holds of words and of their occurrences.
+//! A `Rule` determines how words are counted: their length `K`, one strand or both, and the least quality of a base. A
+//! `Word` is a word as a number, two bits a base; `pack` and `text` convert between it and its letters, and `canonical`
+//! returns the form under which it counts if both strands do. `letter` has the codes of bases, `slow_count` counts
+//! straight from the definitions, and `word_laws` has laws of words and their occurrences.
 //!
 //! ```ignore
 //! let Some(word) = pack(b"cgt", k) else {

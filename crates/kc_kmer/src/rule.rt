@@ -5,8 +5,8 @@ ghost use Rattle.kc_kmer.specs.Rule.{unlisted_rule};
 use crate::k::K;
 use std::marker::Model;
 
-/// What a count is told: the length of the words, whether both strands count (each word then counts
-/// under its canonical form), and the least quality byte of a usable base, from 33 to 126.
+/// The rule of a count: the length of the words, whether both strands count (each word then counts under its canonical
+/// form), and the least quality byte of a usable base, from 33 to 126.
 #[derive(Clone, Copy, PartialEq, Eq, Debug)]
 pub struct Rule {
     k: K,

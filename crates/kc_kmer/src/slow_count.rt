@@ -1,5 +1,5 @@
-//! A plain and slow count, straight from the definitions: a word is looked for at each position of each
-//! read. It is there to compute small examples.
+//! A plain and slow count, straight from the definitions: a word is looked for at each position of each read. It
+//! computes small examples.
 ghost use Rattle.std.specs.Prelude.{◌≡◌, ◌+◌, ◌^◌, ◌<◌, ◌≤◌, length, sum_by, Some, None, SomeIff, IfOk, IfSome, IfNone};
 ghost use Rattle.kc_fastx.specs.Reads.{base_count};
 ghost use Rattle.kc_kmer.specs.Word.{text};
@@ -10,7 +10,7 @@ use crate::rule::Rule;
 use crate::word::{Word, canonical, pack};
 use kc_fastx::SeqRead;
 
-/// How many bases the reads have, where they are fewer than 2^64.
+/// How many bases the reads have, if they are fewer than 2^64.
 pub fn base_count(reads: &[SeqRead]) -> Option<u64>
     ensures { let bases = base_count reads.now in
         SomeIff result (bases < 2 ^ 64) bases }
@@ -36,7 +36,7 @@ pub fn occurrences(reads: &[SeqRead], rule: &Rule, word: Word) -> u64
     count
 }
 
-// at how many positions of the read the word stands
+// at how many positions of the read the word occurs
 fn occurrences_in(read: &SeqRead, rule: &Rule, word: Word) -> u64
     requires { word.0 < 4 ^ rule.now.k }
     ensures value { result ≡ occurrences_in rule.now read.now (text rule.now.k word.0) }
@@ -63,7 +63,7 @@ fn stands_at(read: &SeqRead, rule: &Rule, word: Word, position: usize) -> bool
     }
 }
 
-// the form under which a position counts, if it does
+// the form under which a position counts, if it counts
 fn form_at(read: &SeqRead, rule: &Rule, position: usize) -> Option<Word>
     ensures none { IfNone result (counted_at rule.now read.now position ≡ None) }
     ensures some { IfSome result (λ word. counted_at rule.now read.now position ≡ Some (text rule.now.k word.0)) }
@@ -91,7 +91,7 @@ fn form_at(read: &SeqRead, rule: &Rule, position: usize) -> Option<Word>
     Some(counted)
 }
 
-// whether the base is one of ACGTacgt and its quality, where it has one, reaches the floor
+// whether the base is one of ACGTacgt and its quality, if it has one, is at least the floor
 fn is_usable(read: &SeqRead, rule: &Rule, i: usize) -> bool
     requires { i < length read.now.bases }
     ensures { result ≡ is_usable rule.now read.now i }

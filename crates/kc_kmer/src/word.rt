@@ -44,14 +44,13 @@ pub fn text(word: Word, k: K, letters: &mut [u8; 31])
     }
 }
 
-/// The word as the other strand reads it: backwards, each base complemented. Condition: the word is
-/// below 4^k.
+/// The word on the other strand: reversed, each base complemented. Condition: the word is below 4^k.
 pub fn reverse_complement(word: Word, k: K) -> Word
     requires { word.0 < 4 ^ k }
     ensures below { result.0 < 4 ^ k }
     ensures read_back { text k result.0 ≡ reverse_complement (text k word.0) }
 {
-    // complemented and read backwards bit by bit; then the two bits of each base are exchanged
+    // complemented and reversed bit by bit; then the two bits of each base are exchanged
     let backwards = (!word.0).reverse_bits();
     let turned = ((backwards >> 1) & LOW_BITS) | ((backwards & LOW_BITS) << 1);
     Word(turned >> (64 - 2 * k.get()))

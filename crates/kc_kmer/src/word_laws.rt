@@ -13,7 +13,7 @@ pub fn number_of_text()
     ensures { NumberOfText }
 {}
 
-/// `pack` of the letters that `text` writes is the word.
+/// `pack` inverts `text`.
 pub fn packed_text()
     ensures { PackedText }
 {}
@@ -23,33 +23,33 @@ pub fn order_of_texts()
     ensures { OrderOfTexts }
 {}
 
-/// Read back from the other strand twice, a word is itself.
+/// The reverse complement of the reverse complement is the word itself.
 pub fn reversed_twice()
     ensures { ReversedTwice }
 {}
 
-/// A word and its reverse complement have one canonical form.
+/// A word and its reverse complement have the same canonical form.
 pub fn one_canonical_form()
     ensures { OneCanonicalForm }
 {}
 
-/// In reads that are joined each word occurs as often as in both parts together.
+/// In joined reads each word occurs as often as in both parts together.
 pub fn joined_occurrences()
     ensures { JoinedOccurrences }
 {}
 
-/// A word occurs as often as its number stands among the words of the reads.
+/// A word occurs as often as its number does among the words of the reads.
 pub fn counted_words()
     ensures { CountedWords }
 {}
 
-/// Under a rule with a list of words each of them counts as without the list, and no other word does.
+/// Under a rule with a list of words each of them counts as it does without the list, and no other word counts.
 pub fn listed_words()
     ensures occurrences { ListedOccurrences }
     ensures words { ListedWords }
 {}
 
-/// The words of reads are below 4^k and in the forms under which they count, and at most as many as the bases.
+/// The words of reads are below 4^k and in the forms under which they count, and there are at most as many as bases.
 pub fn words_of_reads()
     ensures below { WordsAreBelow }
     ensures forms { WordsAreForms }

@@ -34,7 +34,7 @@ IsDistinct-filter_by {K} {X} e key p (x ∷ xs) apart =
     others [] all = tt
     others (y ∷ ys) all = kept (p y) y ys (filter p ys) all.0 (others ys all.1)
 
--- where a test tells whether two keys are the same, as `eqb` by `eqb_tells` for numbers
+-- for a test of whether two keys are equal, as `eqb` with `eqb_tells` for numbers
 module _ {K : Type 0} (equal : K → K → Bool) (tells : (x y : K) → ((equal x y ≡ true) × (x ≡ y)) ⊎ ((equal x y ≡ false) × (x ≢ y))) where
   pub equal_flips : (x y : K) → equal x y ≡ equal y x
   equal_flips x y = ⊎_elim
@@ -64,7 +64,7 @@ module _ {K : Type 0} (equal : K → K → Bool) (tells : (x y : K) → ((equal 
       (λ (other : (equal x y ≡ false) × (x ≢ y)). absurd (let never : true ≡ false = sym is ∙ other.0 in cc))
       (tells x y)
 
-  -- a key stands in a list, or each of the list's is another
+  -- a key is in a list, or each key of the list is another
   pub stands_or_not : (x : K) (xs : List K) → Contains xs x ⊎ AllByRecursion (λ y. equal x y ≡ false) xs
   stands_or_not x [] = inr tt
   stands_or_not x (y ∷ ys) = ⊎_elim
@@ -75,7 +75,7 @@ module _ {K : Type 0} (equal : K → K → Bool) (tells : (x y : K) → ((equal 
       (stands_or_not x ys))
       (tells x y)
 
-  -- one key more that isn't there yet
+  -- one more key that isn't there yet
   pub IsDistinct-push_new : (xs : List K) (y : K) → IsDistinct equal xs → ¬ Contains xs y
       → IsDistinct equal (xs ++ y ∷ [])
   unfolding IsDistinct
@@ -110,7 +110,7 @@ module _ {K : Type 0} (equal : K → K → Bool) (tells : (x y : K) → ((equal 
       none : ¬ Contains (map key zs) (key z)
       none = head_apart (key z) (map key zs) distinct
 
-  -- how often a key stands in a list
+  -- how often a key occurs in a list
   abbrev pub times : K → List K → ℕ
   times x xs = count_by (λ y. equal y x) xs
 

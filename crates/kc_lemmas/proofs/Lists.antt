@@ -1,4 +1,4 @@
--- Lists made from lists: parts, maps, filters, lists of lists and ranges, and what stands in them.
+-- Lists made from lists: parts, maps, filters, lists of lists and ranges, and their elements.
 use Rattle.std.proofs.Common.{◌≡◌, ◌≢◌, ℕ, zero, suc, ◌+◌, ◌-◌, ◌<◌, ◌≤◌, ◌⊎◌, inl, inr, List, [], ◌∷◌, ◌++◌, length}
 use Rattle.std.proofs.Common.{get_or, map, take, drop, set, Bool, true, false, ◌&&◌, cond, Option, Some, None, filter}
 use Rattle.std.proofs.Common.{filter_map, option_to_list, slice_get, All, Contains, refl, sym, ap, subst, ◌∙◌, ⊎_elim}
@@ -186,7 +186,7 @@ flat_map-range_more f n =
     ap (flat_map f) (range_more n) ∙ flat_map-append f (range_with_len 0 n) (n ∷ [])
     ∙ ap (λ ys. flat_map f (range_with_len 0 n) ++ ys) (append-nil (f n))
 
--- ---- what stands in a list
+-- ---- the elements of a list
 
 pub All-flat_map : {X Y : Type 0} (P : Y → Type 0) (f : X → List Y) (xs : List X) → All (λ x. All P (f x)) xs
     → All P (flat_map f xs)
@@ -242,7 +242,7 @@ Contains-flat_map {X} {Y} f (z ∷ zs) x y stands inside = ⊎_elim
     (λ (later : Contains zs x). Contains-append_right (f z) (flat_map f zs) y (Contains-flat_map f zs x y later inside))
     (Contains-cons_cases zs x z stands)
 
--- what stands in joined parts stands in one of them
+-- an element of joined parts is in one of them
 pub Contains-flat_map_cases : {X Y : Type 0} (f : X → List Y) (xs : List X) (y : Y) → Contains (flat_map f xs) y
     → (x : X) × Contains xs x × Contains (f x) y
 Contains-flat_map_cases f [] y (k, within, is) = absurd (omega arith)

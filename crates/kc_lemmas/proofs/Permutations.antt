@@ -23,7 +23,7 @@ pub weights-filter : {X : Type 0} (p : X → Bool) (xs ys : List X) → WeighThe
     → WeighTheSame (filter p xs) (filter p ys)
 weights-filter p xs ys same h = sum_by-filter h p xs ∙ same (λ x. cond (p x) (h x) 0) ∙ sym (sum_by-filter h p ys)
 
--- where a test tells whether two elements are the same, as `eqb` by `eqb_tells` for numbers
+-- for a test of whether two elements are equal, as `eqb` with `eqb_tells` for numbers
 module _ {X : Type 0} (equal : X → X → Bool) (tells : (x y : X) → ((equal x y ≡ true) × (x ≡ y)) ⊎ ((equal x y ≡ false) × (x ≢ y))) where
   -- 1 at the element itself, and 0 elsewhere
   weight_at : X → X → ℕ
@@ -43,7 +43,7 @@ module _ {X : Type 0} (equal : X → X → Bool) (tells : (x y : X) → ((equal 
       (λ (t : (equal y x ≡ false) × (y ≢ x)). ap (λ b. cond b 1 0) t.0)
       (tells y x)
 
-  -- an element that weighs in a list stands in it
+  -- an element that weighs in a list is in it
   found : (x : X) (ys : List X) → 0 < sum_by (weight_at x) ys → (k : ℕ) × (k < length ys) × (x ≡ get_or ys k x)
   found x [] positive = absurd (omega arith)
   found x (y ∷ ys) positive = ⊎_elim
@@ -64,7 +64,7 @@ module _ {X : Type 0} (equal : X → X → Bool) (tells : (x y : X) → ((equal 
       omega (arith, same h, sum_by-cons h x xs, sum_by-remove h ys at.0 x at.1))))
       (IsPermutation-sym ys (x ∷ remove ys at.0) (IsPermutation-remove ys at.0 x at.1 at.2))
 
-  -- what passes a test is the same elements where the lists have the same elements
+  -- what passes a test is the same elements if the lists have the same elements
   pub IsPermutation-filter : (p : X → Bool) (xs ys : List X) → IsPermutation xs ys
       → IsPermutation (filter p xs) (filter p ys)
   IsPermutation-filter p xs ys same = IsPermutation-from_weights (filter p xs) (filter p ys) (weights-filter p xs ys (weights-from_IsPermutation xs ys same))

@@ -1,5 +1,5 @@
--- Sums and counts of lists, whatever the lists hold and however their elements weigh. A count is a sum of ones and
--- zeros: what is said of `sum_by` holds of `count_by`.
+-- Sums and counts of lists, whatever their elements and weights are. A count is a sum of ones and zeros: what holds for
+-- `sum_by` holds for `count_by`.
 use Rattle.std.proofs.Common.{◌≡◌, ℕ, zero, suc, ◌+◌, ◌<◌, ◌≤◌, List, [], ◌∷◌, length, get_or, map, set, Bool, true}
 use Rattle.std.proofs.Common.{false, cond, eqb, ne_eqb, ◌≢◌, Option, Some, None, filter, filter_map, sum_by, count_by}
 use Rattle.std.proofs.Common.{All, Contains, refl, sym, ap, ◌∙◌, ⊎_elim, arith}

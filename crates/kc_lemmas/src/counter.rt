@@ -4,8 +4,8 @@ ghost use Rattle.std.specs.Borrow.{ftrue};
 
 use std::marker::Model;
 
-/// How often something was done. It exists only in proofs, so it takes no bytes and has no bound; a contract reads it
-/// as `count`. A contract that is handed one says the exact step from `old` to `new`: then no body resets it.
+/// How often something was done. It exists only in proofs, so it takes no bytes and has no bound; in contracts it is
+/// `count`. A contract that is handed one has the exact step from `old` to `new`: then no body can reset it.
 #[derive(Drop)]
 pub struct Counter {
     pub ghost count: { ℕ },
@@ -16,14 +16,14 @@ impl Model for Counter {
 }
 
 impl Counter {
-    /// The counter that has counted no step.
+    /// The counter with the value 0.
     pub fn zero() -> Counter
         ensures { result.count ≡ 0 }
     {
         Counter {}
     }
 
-    /// The counter with a value that is one greater, where this one is only borrowed.
+    /// The counter with a value that is greater by one; this one is only borrowed.
     pub fn and_one(&self) -> Counter
         ensures { result.count ≡ self.now.count + 1 }
     {

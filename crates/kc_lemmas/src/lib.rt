@@ -1,4 +1,4 @@
-//! What crates above have in common: a counter that only contracts see, vectors whose room is bounded, items in
+//! What the crates above have in common: a counter that only contracts see, vectors with bounded capacity, items in
 //! buckets, and lemmas on lists in `proofs/`.
 #![tactic(auto)]
 

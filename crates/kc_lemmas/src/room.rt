@@ -1,4 +1,4 @@
-//! Vectors whose room is asked for once, and bounded by what is to be put into it.
+//! Vectors whose capacity is asked for once, and bounded by what will be put into them.
 ghost use Rattle.std.specs.Prelude.{◌≡◌, ◌≤◌, [], length, replicate, IfOk};
 ghost use Rattle.std.specs.Vec.{vec_capacity};
 
@@ -12,7 +12,7 @@ pub fn room_for_each<S, T>(alloc: Global, items: &[S]) -> Result<Vec<T>, AllocEr
     Vec::with_capacity(alloc, items.len())
 }
 
-/// `count` zeros, in room for these alone.
+/// `count` zeros, with room only for these.
 pub fn zeros(alloc: Global, count: usize) -> Result<Vec<u64>, AllocError>
     ensures zeros { IfOk result (λ numbers. numbers.items ≡ replicate count 0) }
     ensures bounded { IfOk result (λ numbers. vec_capacity numbers ≤ count) }

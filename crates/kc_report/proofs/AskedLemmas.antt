@@ -53,7 +53,7 @@ decides words passed word d rising before within least =
         never (sym other ∙ eq-eqb (get_or words passed d) word equal))
         (cases_lt k passed)
 
--- where all are passed, none is the word
+-- if all are passed, none is the word
 pub none_left : (words : List ℕ) (passed word : ℕ) → All (λ asked. asked < word) (take passed words) → length words ≤ passed
     → false ≡ is_in words word
 none_left words passed word before over =
@@ -105,7 +105,7 @@ count_filter p n here (row ∷ rows) =
     (sym (ne_eqb row.word n (λ is. never (sym f ∙ ap p is ∙ here))))))
     (cases_Bool (p row.word))
 
--- what holds of the words that pass
+-- a property of the words that are passed
 only_filter : (P : ℕ → Type 0) (p : ℕ → Bool) → ((n : ℕ) → p n ≡ true → P n) → (rows : List Row)
     → All (λ row. P row.word) (filter (λ row. p row.word) rows)
 only_filter P p holds [] = λ k d l. absurd (omega (arith, l))
@@ -222,7 +222,7 @@ numbered_all {k} {both} {words} {i} {numbers} are over = record {
   only = are.only;
 }
 
--- ---- answers
+-- ---- results
 
 same_lines : (tally few : TallySeen) (all words : List (List ℕ)) → HasCountsOf tally all few
     → ((word : List ℕ) → Contains words word → Contains all word) → All (IsAskable tally.k) words
@@ -237,7 +237,7 @@ same_lines tally few all (word ∷ words) h inside askable =
     (λ k d l. askable (suc k) d (omega (arith, l))) in
     λ i. (forms i ++ space ∷ decimal (counts i) ++ line_feed ∷ []) ++ rest i
 
--- what is answered by a tally that has the counts of the asked words in another is answered by that
+-- a tally with the counts of the asked words in another has the same query text
 pub answers_alike : {A : Type 0} (old new : Written) (tally few : TallySeen) (words : List (List ℕ)) (result : Result A ReportFault)
     → HasCountsOf tally words few → Answers old new few words result → Answers old new tally words result
 answers_alike old new tally few words (Ok done) h a =
@@ -258,7 +258,7 @@ answers_alike old new tally few words (Err Unlike) h a = absurd a
 answers_alike old new tally few words (Err TooLarge) h a = absurd a
 answers_alike old new tally few words (Err Memory) h a = absurd a
 
--- ---- one row more of a table
+-- ---- one more row of a table
 
 last_rises : (ws : List ℕ) (a b : ℕ) → IsStrictlyIncreasing ((ws ++ a ∷ []) ++ b ∷ []) → a < b
 last_rises ws a b h =
@@ -270,7 +270,7 @@ last_rises ws a b h =
     let next = get_or_push front b 0 (length ws + 1) (omega (arith, long)) in
     omega (arith, step, at, next)
 
--- what is below a row is below the rows behind it
+-- what is below a row is below the rows after it
 below_next : (rows : List Row) (row next : Row) (passed : List ℕ) → All (λ asked. asked < row.word) passed
     → IsStrictlyIncreasing (map (λ r. r.word) ((rows ++ row ∷ []) ++ next ∷ [])) → All (λ asked. asked < next.word) passed
 below_next rows row next passed below rising =
@@ -279,7 +279,7 @@ below_next rows row next passed below rising =
     let less = last_rises (map (λ r. r.word) rows) row.word next.word (subst IsStrictlyIncreasing words rising) in
     All-weaker (λ asked. asked < row.word) (λ asked. asked < next.word) (λ x l. omega (arith, l, less)) passed below
 
--- a row more was given, and the words below it are passed
+-- one more row was given, and the words below it are passed
 pub record GivesOneMore (start now : Seen) (limit : ℕ) (words : List (List ℕ)) (numbers others : List ℕ) (passed later : ℕ)
     (few : List Row) (old new : TableStand) (row : Row) : Type 0 where
   pub before : Seen

@@ -30,7 +30,7 @@ pub get_or-words_by_count : (high : ℕ) (rows : List Row) (i : ℕ) → i < hig
 unfolding words_by_count
 get_or-words_by_count high rows i below = get_or-map-range_with_len (words_with_count rows) 1 high i (i + 1) 0 below (omega arith)
 
--- one count more
+-- one more count
 pub words_by_count-more : (high : ℕ) (rows : List Row)
     → words_by_count (high + 1) rows ≡ words_by_count high rows ++ words_with_count rows (high + 1) ∷ []
 unfolding words_by_count
@@ -75,7 +75,7 @@ same_else rows row count ne =
     let sum = with_count-push rows row count ∙ ap (λ b. words_with_count rows count + cond b 1 0) (ne_eqb row.count count ne) in
     omega (arith, sum)
 
--- one row more, which has one of the counts
+-- one more row, which has one of the counts
 pub words_by_count-row : (high : ℕ) (rows : List Row) (row : Row) → 1 ≤ row.count → row.count ≤ high
     → let old = words_by_count high rows in
     set old (row.count - 1) (get_or old (row.count - 1) 0 + 1) ≡ words_by_count high (rows ++ row ∷ [])
@@ -139,7 +139,7 @@ counted-most {high} {rows} {left} {later} {words} {row} is next j below =
     let more = ap length next in
     omega (arith, at, words_with_count-most is.seen (j + 1), long, more)
 
--- where each count is at least 1, all words occur more often than 0 times
+-- if each count is at least 1, all words occur more often than 0 times
 pub words_above-all : (rows : List Row) → All (λ row. 1 ≤ row.count) rows → words_above rows 0 ≡ length rows
 words_above-all rows present =
     count_by-all (λ row. nat_lt 0 row.count) rows (λ k d below. let some = present k d below in grind (arith, nat_tests, some))
@@ -193,7 +193,7 @@ bins-front high rows bins small are =
 next-none : (bins : List ℕ) (i : ℕ) → length bins ≤ i + 1 → drop (i + 1) bins ≡ []
 next-none bins i all = drop_of_length-le bins all
 
--- and behind them are the words with greater counts
+-- and after them are the words with greater counts
 bins-rest-from : (rows : List Row) (bins : List ℕ) (n i : ℕ) → i + n + 1 ≡ last_bin → bins ≡ bins_of (counts_of rows) → sum (drop i bins) ≡ words_above rows i
 bins-rest-from rows bins zero i last are =
     let long : length bins ≡ last_bin = ap length are ∙ length-bins_of (counts_of rows) in

@@ -17,7 +17,7 @@ dump_text-cons k dump row rows = pick (is_shown dump row) where
   pick true = refl
   pick false = refl
 
--- A step of a dump: the row at the front goes behind the block, and of both a front may go into the sink.
+-- A step of a dump: the row at the front goes after the block, and of both a prefix may go into the sink.
 pub record RowStep (k : ℕ) (dump : Dump) (row : Row) (later : List Row) : Type 0 where
   pub start : Written
   pub now : Written
@@ -30,7 +30,7 @@ pub record RowStep (k : ℕ) (dump : Dump) (row : Row) (later : List Row) : Type
   pub pending : Pending start now text (block ++ dump_text k dump rows)
   pub moved : Drains now next (block ++ shown_text k dump row) next_block
 
--- The row was put behind the block.
+-- The row was appended to the block.
 pub next_row : (k : ℕ) (dump : Dump) (row : Row) (later : List Row) (s : RowStep k dump row later)
     → Pending s.start s.next s.text (s.next_block ++ dump_text k dump later)
 next_row k dump row later s =

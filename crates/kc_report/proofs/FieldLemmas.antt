@@ -1,4 +1,4 @@
--- What stands in front of bytes that begin with a row.
+-- The front of bytes that begin with a row.
 use Rattle.std.proofs.Common.{◌≡◌, ◌≢◌, ℕ, suc, ◌+◌, ◌-◌, ◌*◌, ◌/◌, ◌%◌, ◌^◌, ◌<◌, ◌≤◌, true, false, List, [], ◌∷◌, ◌++◌, length}
 use Rattle.std.proofs.Common.{take, drop, get_or, refl, sym, ◌∙◌, ap, subst, append_assoc, arith, eqb, eq-eqb}
 use Rattle.std.proofs.Common.{⊎_elim, lit<, drop-cons}
@@ -38,7 +38,7 @@ never e = cc
 pub spelled-none : IsSpelled [] 0
 spelled-none = record { bases = refl; value = sym number-nil }
 
--- what the code of a byte says: below 4 the byte is a base, and this is its code
+-- the meaning of a byte's code: below 4 the byte is a base, and this is its code
 pub capital-most : (b c : ℕ) → c ≡ capital_code b → c ≤ 4
 capital-most b c e =
     let small = code-lt b in
@@ -54,7 +54,7 @@ capital-none : (b c : ℕ) → c ≡ capital_code b → c ≡ 4 → is_base b �
 capital-none b c e is h =
     let small = code-lt b in let value = cond-true _ (code b) 4 h in omega (arith, small, value, e, is)
 
--- one letter more
+-- one more letter
 pub spelled-more : (letters : List ℕ) (i n c : ℕ) → i < length letters → is_base (get_or letters i 0) ≡ true
     → c ≡ code (get_or letters i 0) → IsSpelled (take i letters) n → IsSpelled (take (i + 1) letters) (n * 4 + c)
 spelled-more letters i n c h is e s =
@@ -285,7 +285,7 @@ first_other stop low (c ∷ a) (d ∷ b) x rest p q none e =
     let more = first_other stop low a b x rest p.1 q.1 none (ap (drop 1) e) in
     (rw (head, more.0) refl, more.1)
 
--- behind the digits stands no other
+-- no digit follows the digits
 pub digits_end : {bytes : List ℕ} {n many : ℕ} → HasDigits bytes n many → 0 < length (drop many bytes) → 10 ≤ digit_value (get_or (drop many bytes) 0 0)
 digits_end {bytes} {n} {many} s h =
     let here : get_or (drop many bytes) 0 0 ≡ get_or bytes many 0 = get_or-drop many bytes 0 0 ∙ ap (λ i. get_or bytes i 0) (omega arith) in
@@ -294,7 +294,7 @@ digits_end {bytes} {n} {many} s h =
 
 -- ---- fields that begin with a count
 
--- what stands behind the first byte
+-- what follows the first byte
 pub behind_first : (fields : List ℕ) → take (length fields - 1) (drop 1 fields) ≡ drop 1 fields
 behind_first fields = let left = length-drop 1 fields in take_all (length fields - 1) (drop 1 fields) (omega (arith, left))
 
@@ -303,7 +303,7 @@ pub first_is : {digits : List ℕ} (fields : List ℕ) → 1 ≤ length fields �
 first_is fields some first is = drop-cons fields 0 0 some ∙ ap (λ b. b ∷ drop 1 fields) first
     ∙ ap (λ v. 32 ∷ v) (sym (is ∙ behind_first fields))
 
--- what then stands in the digits
+-- the contents of the digits then
 pub record Tells (digits : List ℕ) (many : ℕ) : Type 0 where
   pub some : 1 ≤ many
   pub most : many ≤ 19
@@ -359,7 +359,7 @@ digit_said (a ∷ b ∷ c ∷ rest) d long blank digit end small =
 
 -- ---- rows
 
--- behind the word of a row stands its count
+-- the count of a row follows its word
 pub row_apart : (k : ℕ) (row : Row) → row_in_columns k false row ≡ text k row.word ++ count_text row.count
 row_apart k row = append_assoc (text k row.word) (space ∷ decimal row.count) (line_feed ∷ [])
 
@@ -395,7 +395,7 @@ fields_are {bytes} k g row same left at =
           (drop-append_seam (text k row.word) rest),
     )
 
--- so many bytes for letters, and the bytes behind them
+-- so many bytes for letters, and the bytes after them
 pub record IsSplitAt (bytes : List ℕ) (g : ℕ) (letters fields : List ℕ) : Type 0 where
   pub within : g ≤ length bytes
   pub front : letters ≡ take g bytes
@@ -422,7 +422,7 @@ one_row k row other bytes fits fits_ at at_ =
     (first_line (row_line k row) (row_line k other) at.0 at_.0 (Without-row k row fits.count)
     (Without-row k other fits_.count) (sym at.1 ∙ at_.1)).0
 
--- ---- bytes in front of which stands no row
+-- ---- bytes that do not begin with a row
 
 abbrev pub SaysNone : ℕ → List ℕ → Type 0
 SaysNone k bytes = (row : Row) → row.word < 4 ^ k → 1 ≤ row.count → row.count ≤ 2 ^ 62

@@ -1,4 +1,4 @@
--- Whether a word or what the other strand reads comes first: their first four letters tell, where they differ.
+-- Whether a word or its reverse complement comes first: their first four letters decide, if they differ.
 use Rattle.std.proofs.Common.{◌≡◌, ℕ, suc, ◌+◌, ◌-◌, ◌*◌, ◌/◌, ◌%◌, ◌^◌, ◌<◌, ◌≤◌, true, ltb, List, ◌++◌, map, reverse, length, take}
 use Rattle.std.proofs.Common.{sym, ap, ◌∙◌, subst, arith, bit_and, ⊎_elim}
 use Rattle.std.specs.Prelude.{IsTrue}
@@ -67,7 +67,7 @@ first-other k j n e =
     sym (take-text j 4 (other k n) k e) ∙ ap (take 4) (text-other k n) ∙ front-other k j n index in
     sym (number-text 4 (other k n / 4 ^ j) small) ∙ ap number spelled
 
--- ---- what the first four letters tell
+-- ---- what the first four letters decide
 
 less-front : (n m p : ℕ) → 0 < p → n / p < m / p → n < m
 less-front n m p some less =

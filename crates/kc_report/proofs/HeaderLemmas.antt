@@ -1,4 +1,4 @@
--- What stands in a header, field by field.
+-- The contents of a header, field by field.
 use Rattle.std.proofs.Common.{◌≡◌, ℕ, ◌-◌, ◌^◌, ◌<◌, List, ◌∷◌, ◌++◌, length, take, drop, ◌∙◌, ap, arith}
 use Rattle.std.specs.Prelude.{decimal}
 use Rattle.std.specs.Str.Parse.{digits_value}
@@ -7,7 +7,7 @@ use Rattle.std.proofs.lemmas.List.{take-append-drop, length-drop, take_all}
 use Rattle.kc_report.specs.TableRows.{HasDigits}
 use Rattle.kc_report.proofs.FieldLemmas.{first_other, digits_end}
 
--- the number in front of the bytes, and what comes behind it
+-- the number at the front of the bytes, and what follows it
 pub number_told : {bytes : List ℕ} {number many : ℕ} → HasDigits bytes number many → (n stop : ℕ) (rest : List ℕ) → n < 2 ^ 64 → stop < 48
     → bytes ≡ decimal n ++ stop ∷ rest → (number ≡ n) × (take (length bytes - many) (drop many bytes) ≡ stop ∷ rest)
 number_told {bytes} {number} {many} s n stop rest small low e =

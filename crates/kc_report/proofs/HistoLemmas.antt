@@ -53,7 +53,7 @@ unfolding lines_from
 lines-last words above i all =
     ap (λ rest. lines_from (i + 1) rest above) (drop_of_length-le words (omega (arith, all))) ∙ ap (λ n. count_line (n + 1) above) all
 
--- the line of the next count was put behind the block
+-- the line of the next count was appended to the block
 pub next_line : {s a b : Written} {text after : List ℕ} (block words : List ℕ) (above i d : ℕ) → i < length words
     → Pending s a text (block ++ lines_from (i + 1) (drop i words) above) → Drains a b (block ++ count_line (i + 1) (get_or words i d)) after
     → Pending s b text (after ++ lines_from (i + 1 + 1) (drop (i + 1) words) above)

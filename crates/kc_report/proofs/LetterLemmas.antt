@@ -36,7 +36,7 @@ bytes-four codes =
     same_four (omega (arith, ia, ib, ic, id)) (omega (arith, ia, ib, ic, id)) (omega (arith, ia, ib, ic, id))
     (omega (arith, ia, ib, ic, id))
 
--- one byte behind another
+-- one byte after another
 pushed_four : (front : List ℕ) (a b c d : ℕ)
     → (((front ++ a ∷ []) ++ b ∷ []) ++ c ∷ []) ++ d ∷ [] ≡ front ++ a ∷ b ∷ c ∷ d ∷ []
 pushed_four front a b c d =
@@ -128,7 +128,7 @@ letters-all codes j letters e s =
     ∙ ap (λ i. text 32 (codes / 2 ^ i)) shift
     ∙ ap (text 32) whole
 
--- the letters of a word, whose codes stand in the highest bits
+-- the letters of a word with its codes in the highest bits
 pub letters-front : (k g n : ℕ) → g ≡ k → k ≤ 31 → n < 4 ^ k
     → take g (text 32 (n * 2 ^ (64 - 2 * g) % 2 ^ 64)) ≡ text k n
 letters-front k g n same most h =

@@ -1,4 +1,4 @@
--- The first line of some bytes, of which a front was searched before.
+-- The first line of some bytes, of which a prefix was searched before.
 use Rattle.std.proofs.Common.{◌≡◌, ℕ, zero, suc, ◌+◌, ◌<◌, ◌≤◌, true, false, Bool, eqb, ◌-◌, List, [], ◌∷◌, ◌++◌}
 use Rattle.std.proofs.Common.{inl, inr, length, get_or, take, drop, refl, sym, subst, ◌∙◌, ap, arith, append_assoc, append-nil, eq-eqb}
 use Rattle.std.specs.Prelude.{IsTrue, Ok}
@@ -15,7 +15,7 @@ use Rattle.kc_report.specs.Table.{ended}
 use Rattle.kc_report.specs.TableReading.{HasLine}
 use Rattle.kc_report.proofs.TableLines.{Without-append}
 
--- no line feed stands below the index
+-- there is no line feed below the index
 abbrev pub NoneBelow : List ℕ → ℕ → Type 0
 NoneBelow bytes k = (j : ℕ) → 0 ≤ j → j < k → ¬ (eqb (get_or bytes j 0) line_feed ≡ true)
 
@@ -37,7 +37,7 @@ line_at bytes k below is none = record {
   one = without_take bytes k none;
 }
 
--- the first line feed behind a front without one
+-- the first line feed after a prefix without one
 pub line_found : (bytes : List ℕ) (searched k : ℕ) → Without line_feed (take searched bytes)
     → k < length (drop searched bytes) → eqb (get_or (drop searched bytes) k 0) line_feed ≡ true
     → NoneBelow (drop searched bytes) k → IsLine (take (searched + k + 1) bytes)
@@ -52,7 +52,7 @@ line_found bytes searched k front below is none =
       one = Without-append line_feed (take searched bytes) line.bytes front line.one;
     }
 
--- no line feed stands behind such a front
+-- no line feed follows such a prefix
 pub none_found : (bytes : List ℕ) (searched : ℕ) → Without line_feed (take searched bytes)
     → NoneBelow (drop searched bytes) (length (drop searched bytes)) → Without line_feed bytes
 none_found bytes searched front none =
@@ -69,7 +69,7 @@ no_stop (c ∷ line) rest p = no_stop line rest p.1
 pub no_line : (bytes : List ℕ) → Without line_feed bytes → ¬ HasLine bytes
 no_line bytes none has = no_stop has.0 has.1.0 (subst (λ v. Without line_feed v) has.1.1 none)
 
--- what was searched stays so when more comes behind it
+-- what was searched stays so when more follows it
 filled_searched_front : {old new : Seen} {before after : Unread} → Filled old new before after
     → Without line_feed before.bytes → Without line_feed (take (length before.bytes) after.bytes)
 filled_searched_front {old} {new} {before} {after} f none =
@@ -78,7 +78,7 @@ filled_searched_front {old} {new} {before} {after} f none =
     ∙ take_all (length before.bytes) before.bytes (omega arith) in
     subst (λ v. Without line_feed v) (sym front) none
 
--- more came, behind unread bytes that were searched in vain
+-- more came, after unread bytes without a line
 pub filled_searched : {old mid new : Seen} {first before after : Unread} (came : Bool) → Filled old mid first before
     → Without line_feed before.bytes → came ≡ true → Fills mid new before after (Ok came)
     → Filled old new first after × (length before.bytes ≤ length after.bytes)
@@ -104,7 +104,7 @@ ended_searched {before = before} after false so_far none is fills =
       subst (λ v. ¬ HasLine v) (sym same) (no_line _ none),
     )
 
--- Whether the first `count` of so many bytes are all, and nothing more came. Where there are others, they aren't.
+-- Whether the first `count` bytes are all, and nothing more came. If there are others, they aren't.
 pub others_left : (bytes more : List ℕ) (count long : ℕ) (is : Bool) → long ≡ length bytes → (long - count ≡ 0 → ⊥)
     → is ≡ eqb (long - count) 0
     → (IsTrue is → drop count bytes ++ more ≡ []) × (drop count bytes ++ more ≡ [] → IsTrue is)
@@ -114,7 +114,7 @@ others_left bytes more count long is whole others told = (
       length-drop count bytes in absurd (others (omega (arith, rest, parts, dropped, whole))),
 )
 
--- The first `count` are all, and so many more came.
+-- The first `count` bytes are all, and so many more came.
 pub none_left : (bytes more : List ℕ) (count long many : ℕ) → long ≡ length bytes → long - count ≡ 0
     → length more ≡ many
     → (IsTrue (eqb many 0) → drop count bytes ++ more ≡ []) × (drop count bytes ++ more ≡ [] → IsTrue (eqb many 0))
@@ -138,7 +138,7 @@ pub none_before : {old now : Seen} (before after : Unread) → CameForLine old n
 none_before before after (inl same) none = subst (λ (u : Unread). ¬ HasLine u.bytes) same.1 none
 none_before before after (inr came) none = came.0
 
--- one block more came, behind bytes that were searched in vain
+-- one more block came, after bytes without a line
 pub came_more : {old mid new : Seen} {first before after : Unread} (came : Bool) → CameForLine old mid first before
     → Without line_feed before.bytes → came ≡ true → Fills mid new before after (Ok came)
     → length after.bytes ≤ length before.bytes + 65536 → CameForLine old new first after
@@ -167,7 +167,7 @@ line_of_drop (b ∷ bytes) (suc n) has =
 no_line_of_none : ¬ HasLine []
 no_line_of_none has = no_line [] tt has
 
--- bytes without a line, or no more than a block, stay so where their front is used
+-- bytes without a line, or no more than a block, stay so if their front is used
 pub ends_used : (n : ℕ) (bytes : List ℕ) → EndsWithBlock bytes → EndsWithBlock (drop n bytes)
 ends_used n bytes e = record {
   front = drop n e.front;
@@ -193,7 +193,7 @@ pub ends_found : {old new : Seen} (before after : Unread) → CameForLine old ne
 ends_found before after (inl same) ends = subst (λ (u : Unread). EndsWithBlock u.bytes) (sym same.1) ends
 ends_found before after (inr came) ends = came.1
 
--- nothing was taken where a line was there
+-- nothing was taken if a line was there
 pub none_taken : {old new : Seen} (before after : Unread) → CameForLine old new before after → HasLine before.bytes
     → new ≡ old
 none_taken before after (inl same) has = same.0

@@ -63,7 +63,7 @@ rises-to rows (Some last) word ends above =
     let same = ends.3 in
     omega (arith, here, same, less)
 
--- a row that may come next by what is kept of the rows may come behind them
+-- a row that may come next by what is kept of the rows may follow them
 pub follows-kept : (rows : List Row) (read : RowsRead) (row : Row) → IsKeptOf rows read
     → AreRows read.k read.both rows → ComesNext read row → AreRows read.k read.both (rows ++ row ∷ [])
 follows-kept rows read row kept are next =
@@ -106,9 +106,9 @@ kept_push {rows} {read} row kept = record {
       omega (arith, total, sum_by-append (λ (row : Row). row.count) rows (row ∷ []));
 }
 
--- ---- the row in front of the bytes
+-- ---- the row at the front of the bytes
 
--- Bytes in front of which stands no row that may come next begin with no such row.
+-- Bytes without a row at their front that may come next begin with no such row.
 pub no_other_row : {bytes : List ℕ} {found : Row} (t u : RowsRead) → t ≡ u → Says t.k bytes found
     → ¬ ComesNext u found → (row : Row) → ComesNext u row → BeginsWith bytes (row_in_columns u.k false row) → ⊥
 no_other_row {bytes} {found} t u view says refused row follows f =

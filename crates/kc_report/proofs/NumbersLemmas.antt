@@ -1,4 +1,4 @@
--- What is counted of the rows of a table, a row more at a time.
+-- What is counted of the rows of a table, one more row at a time.
 use Rattle.std.proofs.Common.{◌≡◌, ℕ, ◌+◌, ◌-◌, ◌^◌, ◌<◌, ◌≤◌, Bool, true, false, cond, eqb, List, [], ◌∷◌, ◌++◌, length, get_or, set, replicate}
 use Rattle.std.proofs.Common.{refl, sym, ap, ◌∙◌, subst, arith}
 use Rattle.std.specs.Prelude.{All, sum, max}
@@ -25,7 +25,7 @@ greatest_push rows row =
     ap greatest_of (map_push (λ (r : Row). r.count) rows row)
     ∙ fold-append max 0 (counts_of rows) (row.count ∷ [])
 
--- the statistics of one row more
+-- the statistics of one more row
 pub statistics_push : (rows : List Row) (row : Row) → statistics_of (rows ++ row ∷ []) ≡ record {
   unique = words_with_count rows 1 + one_with row 1;
   distinct = length rows + 1;
@@ -43,7 +43,7 @@ statistics_push rows row = λ i. record {
 pub rows_few : {high : ℕ} {rows : List Row} {numbers : NumbersSeen} → IsCountOf high rows numbers → length rows ≤ 2 ^ 62
 rows_few {rows = rows} is = omega (arith, length-le_total rows is.present, is.small)
 
--- the statistics with one count more
+-- the statistics with one more count
 abbrev pub with_count : Statistics → ℕ → Statistics
 with_count statistics count = record {
   unique = statistics.unique + cond (eqb count 1) 1 0;
@@ -82,7 +82,7 @@ more_small : {high : ℕ} {rows : List Row} {numbers : NumbersSeen} {row : Row} 
 more_small {rows = rows} {row = row} f =
     let total = ap (λ s. s.total) f.is.statistics in omega (arith, total, f.small, total_of-push rows row)
 
--- one row more, which has a place
+-- one more row, which has a place
 pub counts_inside : {high : ℕ} {rows : List Row} {numbers : NumbersSeen} {row : Row} (words : List ℕ) (statistics : Statistics)
     → Fits high rows numbers row → row.count ≤ length numbers.words
     → words ≡ set numbers.words (row.count - 1) (get_or numbers.words (row.count - 1) 0 + 1)

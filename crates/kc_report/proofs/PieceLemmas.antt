@@ -1,4 +1,4 @@
--- The dump of rows in pieces, one piece after another.
+-- The dump of rows in pieces, piece after piece.
 use Rattle.std.proofs.Common.{◌≡◌, ◌∙◌, ℕ, ◌+◌, ◌^◌, ◌<◌, ◌≤◌, true, false, cond, List, [], ◌∷◌, ◌++◌, length, get_or, take, drop}
 use Rattle.std.proofs.Common.{All, refl, sym, ap, subst, arith}
 use Rattle.std.specs.Prelude.{filter}
@@ -24,7 +24,7 @@ dump_text-append k dump xs ys =
     ap (flat_map (row_text k dump)) (filter-append (is_shown dump) xs ys)
     ∙ flat_map-append (row_text k dump) (filter (is_shown dump) xs) (filter (is_shown dump) ys)
 
--- the dump of the pieces from one on is its own and that of the pieces behind it
+-- the dump of the pieces from one on is its own and that of the pieces after it
 pub next_piece : (k : ℕ) (dump : Dump) (pieces : List (List Row)) (i : ℕ) (piece : List Row) → i < length pieces
     → dump_text k dump (all_rows (drop i pieces))
     ≡ dump_text k dump (get_or pieces i piece) ++ dump_text k dump (all_rows (drop (i + 1) pieces))
@@ -40,7 +40,7 @@ first_pieces k dump pieces front rest is =
     ∙ ap (dump_text k dump) (flat_map-append (λ (piece : List Row). piece) front rest)
     ∙ dump_text-append k dump (all_rows front) (all_rows rest)
 
--- the dump of the pieces from one on is that of the next few and that of those behind them
+-- the dump of the pieces from one on is that of the next few and that of those after them
 pub next_pieces : (k : ℕ) (dump : Dump) (pieces : List (List Row)) (i n : ℕ)
     → dump_text k dump (all_rows (drop i pieces))
     ≡ dump_text k dump (all_rows (take n (drop i pieces))) ++ dump_text k dump (all_rows (drop (i + n) pieces))
@@ -48,7 +48,7 @@ next_pieces k dump pieces i n =
     first_pieces k dump (drop i pieces) (take n (drop i pieces)) (drop n (drop i pieces)) (sym (take-append-drop n (drop i pieces)))
     ∙ ap (λ ps. dump_text k dump (all_rows (take n (drop i pieces))) ++ dump_text k dump (all_rows ps)) (drop-drop n i pieces)
 
--- as much room is left where some of the items were written over
+-- as much room is left if some of the items were written over
 pub still_room : {X : Type 0} (n : ℕ) (given items : List X) → n ≡ length items → 1 ≤ length items
     → 1 ≤ length (take n (given ++ drop (length given) items))
 still_room n given items is some =
@@ -57,7 +57,7 @@ still_room n given items is some =
     let left = length-drop (length given) items in
     omega (arith, taken, joined, left, is, some)
 
--- what holds of joined lists holds of each
+-- what holds for joined lists holds for each
 All-front : {X : Type 0} (P : X → Type 0) (xs ys : List X) → All P (xs ++ ys) → All P xs
 All-front P xs ys all = λ i d h.
     let long = length-append xs ys in subst P (get_or_append_left xs ys d i h) (all i d (omega (arith, long, h)))
@@ -67,7 +67,7 @@ All-behind P xs ys all = λ i d h.
     let long = length-append xs ys in
     subst P (get_or-append-add xs ys i d) (all (length xs + i) d (omega (arith, long, h)))
 
--- what holds of all rows holds of the rows of each piece
+-- what holds for all rows holds for the rows of each piece
 pub All-pieces : (P : Row → Type 0) (pieces : List (List Row)) → All P (all_rows pieces) → All (All P) pieces
 All-pieces P [] all = All-nil (All P)
 All-pieces P (piece ∷ pieces) all =

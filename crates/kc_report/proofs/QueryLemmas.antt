@@ -44,7 +44,7 @@ answer_line tally asked k packed word count both c =
 
 -- ---- the text
 
--- A step of an answer: the lines of the words from the index on are left behind the block, for which room was made.
+-- A step of a query: the lines of the words from the index on are left after the block, for which room was made.
 pub record AnswerStep (tally : TallySeen) (words : List (List ℕ)) : Type 0 where
   pub start : Written
   pub now : Written
@@ -56,7 +56,7 @@ pub record AnswerStep (tally : TallySeen) (words : List (List ℕ)) : Type 0 whe
   pub pending : Pending start now text (block ++ query_text tally (drop index words))
   pub moved : Drains now next block room
 
--- The line of the next word was put behind the block.
+-- The line of the next word was appended to the block.
 pub next_answer : {tally : TallySeen} {words : List (List ℕ)} (s : AnswerStep tally words) (after word : List ℕ)
     → s.index < length words → after ≡ s.room ++ query_line tally word → get_or words s.index [] ≡ word
     → Pending s.start s.next s.text (after ++ query_text tally (drop (s.index + 1) words))

@@ -65,7 +65,7 @@ pub given_none : {start now : Seen} {limit : ℕ} {unread : Unread} (k : ℕ) (b
     })
 given_none k both origin r = given r (record { kept = kept_none k both; still = refl; unfailed = refl })
 
--- one row more was given
+-- one more row was given
 pub given_row : {start now : Seen} {limit : ℕ} {rows : List Row} {old new : TableStand} {row : Row}
     → HasGivenRows start now limit rows old → UsesRow old new row
     → HasGivenRows start now limit (rows ++ row ∷ []) new
@@ -75,7 +75,7 @@ given_row {start} {now} {limit} {rows} {old} {new} {row} h u =
     subst (λ s. HasGivenRows start now limit (rows ++ row ∷ []) s) (sym u.moved)
     (given passed (record { kept = kept_push row h.kept; still = refl; unfailed = h.unfailed }))
 
--- the row in front of the bytes is the only one that may come next there
+-- the row at the front of the bytes is the only one that may come next there
 pub gives_only : {old new : TableStand} {row : Row} → UsesRow old new row → IfSome old.unread (λ unread.
     (other : Row) → ComesNext old.read other → BeginsWith unread.bytes (row_in_columns old.read.k false other)
     → ◌≡◌ {A = Result (Option Row) ReportFault} (Ok (Some row)) (Ok (Some other)))
@@ -88,7 +88,7 @@ gives_only {old} {new} {row} u =
     (λ other next at. ap (λ (r : Row). Ok (Some r)) (one_row old.read.k row other u.unread.bytes fits
     (next_fits old.read other next) here.at at))
 
--- none stands there
+-- there is none
 pub gives_none : (Gives : Row → Type 0) (read : RowsRead) (unread : Option Unread)
     → IfSome unread (λ unread. BeginsWithNoRow read unread.bytes)
     → IfSome unread (λ unread. (row : Row) → ComesNext read row
@@ -133,7 +133,7 @@ row_refuses start now limit front Unlike h = absurd h
 row_refuses start now limit front TooLarge h = absurd h
 row_refuses start now limit front Memory h = inl h
 
--- the same of an answer
+-- the same for a result
 pub refuses : {A : Type 0} {Is Also : ReportFault → Type 0} (answer : Result A ReportFault)
     → ((fault : ReportFault) → Is fault → Also fault) → IfErr answer Is → IfErr answer Also
 refuses (Ok a) also h = tt
@@ -146,7 +146,7 @@ table_in_vain bytes all = inr (bytes, all)
 
 -- ---- steps of a reader
 
--- where bytes are unread, no fault was kept, nor is one then
+-- if bytes are unread, no fault was kept, nor is one then
 pub no_fault : {was : Option Unread} {unread : Unread} (is : Option Unread) (failed : Option ReportFault)
     → IfSome failed (λ fault. was ≡ None) → was ≡ Some unread → IfSome failed (λ fault. is ≡ None)
 no_fault is None kept some = tt
@@ -167,7 +167,7 @@ pub taken_out : {start now : Seen} {limit : ℕ} {rows : List Row} {inside stand
 taken_out {start} {now} {limit} {rows} {inside} {stand} unread view some h =
     subst (λ s. HasGivenRows start now limit rows s) (sym view ∙ ap (λ v. record inside { unread = v }) some) h
 
--- an answer that gives no row refuses the table
+-- a result that gives no row refuses the table
 pub answer_refuses : (start now : Seen) (limit : ℕ) (rows : List Row) (stand : TableStand)
     (answer : Result (Option Row) ReportFault) → GivesRow start now limit rows stand answer
     → IfErr answer (RefusesTable start now limit)
@@ -188,7 +188,7 @@ given_few {rows = rows} h =
     let small = h.lawful.rows.small in
     omega (arith, most, small)
 
--- a line that is no row that may come next, as what is kept of the rows tells
+-- a line that is no row that may come next, by what is kept of the rows
 pub no_row_kept : {rows : List Row} {inside now : TableStand} {line : List ℕ} → inside ≡ now → IsKeptOf rows now.read
     → ((row : Row) → ComesNext inside.read row → BeginsWith line (row_in_columns inside.read.k false row) → ⊥)
     → (row : Row) → MayFollow (tally_of now rows) row → BeginsWith line (row_in_columns now.read.k false row) → ⊥
@@ -201,7 +201,7 @@ pub no_row_now : {inside now : TableStand} {line : List ℕ} → inside ≡ now 
     → BeginsWithNoRow now.read line
 no_row_now {line = line} view none = subst (λ (s : TableStand). BeginsWithNoRow s.read line) view none
 
--- the number of the line behind the rows
+-- the number of the line after the rows
 pub line_number : {rows : List Row} {inside now : TableStand} (number : ℕ) → inside ≡ now → IsKeptOf rows now.read
     → number ≡ inside.read.count + 2 → number ≡ length rows + 2
 line_number number view kept_ told =
@@ -209,7 +209,7 @@ line_number number view kept_ told =
     let kept = kept_.count in
     omega (arith, count, kept, told)
 
--- memory was refused behind rows that were given
+-- memory was refused after rows that were given
 pub rows_in_vain : {start now : Seen} {limit : ℕ} {rows : List Row} {stand : TableStand}
     → HasGivenRows start now limit rows stand → RefusesTable start now limit Memory
 rows_in_vain h = memory_refused (reached h.unread h h.still).used

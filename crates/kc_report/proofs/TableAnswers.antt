@@ -1,4 +1,4 @@
--- Bytes have one answer as a table text.
+-- Bytes have one result as a table text.
 use Rattle.std.proofs.Common.{◌≡◌, ℕ, ◌+◌, ◌≤◌, Bool, false, List, [], ◌∷◌, ◌++◌, length, drop, refl, sym}
 use Rattle.std.proofs.Common.{◌∙◌, ap, subst, append_assoc, append-nil, arith, inl, inr, ◌⊎◌}
 use Rattle.std.specs.Prelude.{codes, Result, Ok, Err, Option}
@@ -16,7 +16,7 @@ use Rattle.kc_report.proofs.TableLines.{row_line, first_line, Fits, same_row, sa
 use Rattle.kc_report.proofs.TableLines.{Without-header, MayHead}
 use Rattle.kc_report.proofs.TableFronts.{AreRows-front, AreRows-last}
 
--- no row that may come next stands at the front of the rest
+-- the rest does not begin with a row that may come next
 abbrev pub Stops : ℕ → Bool → List Row → List ℕ → Type 0
 Stops k both rows rest = (row : Row) → AreRows k both (rows ++ row ∷ [])
     → ¬ BeginsWith rest (row_in_columns k false row)
@@ -31,7 +31,7 @@ next_of : (k : ℕ) (both : Bool) (rows : List Row) (row : Row) (more : List Row
 next_of k both rows row more r = AreRows-front k both (rows ++ row ∷ []) more
     (subst (AreRows k both) (sym (append_assoc rows (row ∷ []) more)) r)
 
--- a way to read rows behind others, as far as it goes
+-- a way to read rows after others, as far as it goes
 pub record Way (k : ℕ) (both : Bool) (before rows : List Row) (rest : List ℕ) : Type 0 where
   pub lawful : AreRows k both (before ++ rows)
   pub stops : Stops k both (before ++ rows) rest
@@ -43,7 +43,7 @@ passed {k} {both} {before} {more} {rest} row w =
     let whole : before ++ row ∷ more ≡ (before ++ row ∷ []) ++ more = sym (append_assoc before (row ∷ []) more) in
     record { lawful = subst (AreRows k both) whole w.lawful; stops = subst (λ v. Stops k both v rest) whole w.stops }
 
--- where a way stops, no row goes on
+-- if one reading stops, no row follows
 stopped : {k : ℕ} {both : Bool} {before : List Row} {rest : List ℕ} (row : Row) (more : List Row)
     → Way k both before [] rest → AreRows k both (before ++ row ∷ more)
     → ¬ BeginsWith rest (row_in_columns k false row)
@@ -95,7 +95,7 @@ end_begins rows rest e = (drop 3 (end_text rows), e)
 pub end_has_line : (rows : List Row) (rest : List ℕ) → rest ≡ end_text rows → HasLine rest
 end_has_line rows rest e = (end_line (length rows) (total_of rows), ([], e ∙ sym (append-nil (end_text rows))))
 
--- what the rest makes of the bytes, behind the last row that is read: a table, a bad end or a bad row
+-- the results for the rest of the bytes, after the last row that is read: a table, a bad end or a bad row
 abbrev pub Answered : Type 0
 Answered = Result (TallySeen × Option Origin) ReportFault
 

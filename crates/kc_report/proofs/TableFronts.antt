@@ -1,4 +1,4 @@
--- The rows of a table, of which each front is lawful, and one row more.
+-- The rows of a table, of which each prefix is lawful, and one more row.
 use Rattle.std.proofs.Common.{◌≡◌, ℕ, suc, ◌+◌, ◌^◌, ◌<◌, ◌≤◌, Bool, List, [], ◌∷◌, ◌++◌, map, length, get_or, refl, sym, ap, subst, arith, ⊎_elim}
 use Rattle.std.specs.List.{All}
 use Rattle.std.proofs.lemmas.Bool.{cases_lt}
@@ -79,7 +79,7 @@ rising_push xs y rising less k h =
     (λ l. let at : k + 1 ≡ length xs = omega (arith, inside, l) in let next = get_or_push xs y 0 (k + 1) (sym at) in let step = less k at in omega (arith, first, next, step))
     (cases_lt (k + 1) (length xs))
 
--- and such a row may come behind the rows
+-- and such a row may follow the rows
 pub AreRows-push : (k : ℕ) (both : Bool) (rows : List Row) (row : Row) → AreRows k both rows → IsLast k both rows row → AreRows k both (rows ++ row ∷ [])
 AreRows-push k both rows row r l = record {
   ordered = record {

@@ -1,4 +1,4 @@
--- The lines of a table text: each ends with its first line feed, and says one thing.
+-- The lines of a table text: each ends with its first line feed, and has one reading.
 use Rattle.std.proofs.Common.{◌≡◌, ◌≢◌, ℕ, zero, suc, ◌^◌, ◌/◌, ◌%◌, ◌<◌, ◌≤◌, Bool, true, false, List, [], ◌∷◌, ◌++◌, length, get_or, drop, refl, sym, ◌∙◌, ap, append_assoc, arith}
 use Rattle.std.specs.Prelude.{codes, decimal, Option, Some, None}
 use Rattle.std.specs.Str.Parse.{AllDigits}
@@ -29,7 +29,7 @@ first_stop stop (c ∷ a) (d ∷ b) x y p q e =
     let more = first_stop stop a b x y p.1 q.1 rest in
     (rw (head, more.0) refl, more.1)
 
--- A line with its end, and what comes behind it.
+-- A line with its end, and what follows it.
 pub ended-append : (line rest : List ℕ) → ended line ++ rest ≡ line ++ line_feed ∷ rest
 ended-append line rest = append_assoc line (line_feed ∷ []) rest
 
@@ -82,7 +82,7 @@ Without-row k row small =
     let number : Without line_feed (space ∷ decimal row.count) = (λ e. omega (arith, e), Without-decimal line_feed row.count (omega arith) small) in
     Without-append line_feed (text k row.word) (space ∷ decimal row.count) (Without-text line_feed k row.word (omega arith)) number
 
--- the word and the count of a row are such as a line can say
+-- a line can have the word and the count of a row
 pub record Fits (k : ℕ) (row : Row) : Type 0 where
   pub word : row.word < 4 ^ k
   pub count : row.count < 2 ^ 64
@@ -152,7 +152,7 @@ same_selection true false x y e = absurd (omega (arith, ap (λ (l : List ℕ). g
 same_selection false true x y e = absurd (omega (arith, ap (λ (l : List ℕ). get_or l 0 0) e))
 same_selection false false x y e = (refl, ap (drop 1) e)
 
--- what stands behind the version, and in an origin, field by field
+-- what follows the version, and in an origin, field by field
 pub header_fields : (k : ℕ) (both : Bool) (origin : Option Origin) → drop 6 (header_line k both origin) ≡ decimal k ++ space ∷ (kind both ++ origin_text origin)
 header_fields k both None = append_assoc (decimal k) (space ∷ kind both) []
 header_fields k both (Some origin) = append_assoc (decimal k) (space ∷ kind both) (origin_text (Some origin))
@@ -178,7 +178,7 @@ same_origin (Some origin) (Some another) said said_ e =
     let reads = decimal_injective origin.reads another.reads (omega (arith, few)) (omega (arith, few_)) numbers.1 in
     λ i. Some (record { floor = floor i; reads = reads i; listed = lists.0 i })
 
--- what a header says
+-- the fields of a header
 pub record SameHeader (k m : ℕ) (both other : Bool) (origin another : Option Origin) : Type 0 where
   pub bases : k ≡ m
   pub strands : both ≡ other

@@ -35,7 +35,7 @@ use Rattle.kc_report.proofs.UsedLemmas.{used_in_vain}
 
 -- ---- one line of the bytes
 
--- the first line of the bytes, and what comes behind it
+-- the first line of the bytes, and what follows it
 pub record Splits (bytes line rest : List ℕ) : Type 0 where
   pub split : bytes ≡ line ++ rest
   pub one : IsLine line
@@ -91,7 +91,7 @@ pub record Reached (old now : Seen) (limit : ℕ) (front : TallySeen) (origin : 
   pub lawful : IsTable front origin
   pub used : Used old now limit (front_of front origin) unread
 
--- a line stands in front of the unread bytes, and has so many
+-- a line is at the front of the unread bytes, and has so many
 pub record InFront (unread : Unread) (count : ℕ) (line : List ℕ) : Type 0 where
   pub cut : line ≡ take count unread.bytes
   pub one : IsLine line
@@ -154,7 +154,7 @@ header_refused {unread = unread} used skips f none = (
       (line_is (header_line k both origin) at.0 (splits skips.0 f) (Without-header k both origin most said) at.1),
 )
 
--- what a header may say
+-- the possible fields of a header
 pub record MayBegin (k : ℕ) (origin : Option Origin) : Type 0 where
   pub some : 1 ≤ k
   pub most : k ≤ 31
@@ -176,7 +176,7 @@ header_used {old} {now} {limit} {count} {unread} {line} k both origin used f may
 
 -- ---- rows
 
--- the row in front of the unread bytes was used
+-- the row at the front of the unread bytes was used
 pub row_passed : {old now : Seen} {limit : ℕ} {front : TallySeen} {origin : Option Origin} {unread : Unread}
     (size : ℕ) (row : Row) → Reached old now limit front origin unread
     → take size unread.bytes ≡ row_in_columns front.k false row → MayFollow front row
@@ -235,7 +235,7 @@ row_refused {front = front} {origin = origin} {unread = unread} is number r skip
   ),
 )
 
--- ---- bytes in front of which stands no row that may come next
+-- ---- bytes that do not begin with a row that may come next
 
 -- no line is there
 pub no_row_without_line : (read : RowsRead) (bytes : List ℕ) → ¬ HasLine bytes → BeginsWithNoRow read bytes
@@ -303,7 +303,7 @@ end_is_line {front} {origin} lawful =
     let small = lawful.rows.small in
     Without-end (length front.rows) (total_of front.rows) (omega (arith, most, small)) (omega (arith, small))
 
--- where what is left is the end, the line is it, and nothing comes behind
+-- if the end is left, it is the line, and nothing follows
 only_end : {left line rest : List ℕ} {front : TallySeen} {origin : Option Origin} → IsTable front origin → Splits left line rest
     → left ≡ end_text front.rows → (line ≡ end_text front.rows) × (rest ≡ [])
 only_end {left} {line} {rest} {front} {origin} lawful s e =
@@ -322,7 +322,7 @@ pub not_both : {A B : Type 0} (one other : Bool) → (one ≡ false) ⊎ ((one �
 not_both one other (inl failed) told told_one a b = never (sym failed ∙ told_one b)
 not_both one other (inr failed) told told_one a b = never (sym failed.1 ∙ told a)
 
--- the line begins as the end does, but it is another, or more comes behind it
+-- the line begins as the end does, but it is another, or more follows it
 pub end_refused : {old mid new : Seen} {limit count many : ℕ} {front : TallySeen} {origin : Option Origin}
     {unread : Unread} {line : List ℕ} (is : Bool)
     → Reached old mid limit front origin unread → (skips : Skips mid new unread (Ok many)) → InFront unread count line
@@ -344,7 +344,7 @@ end_refused {front = front} {origin = origin} {unread = unread} is r skips f tol
   ),
 )
 
--- the line is the end, and nothing comes behind it
+-- the line is the end, and nothing follows it
 pub table_given : {old mid new : Seen} {limit count many : ℕ} {front : TallySeen} {origin : Option Origin}
     {unread : Unread} {line : List ℕ}
     → Reached old mid limit front origin unread → (skips : Skips mid new unread (Ok many)) → InFront unread count line

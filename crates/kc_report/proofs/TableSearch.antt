@@ -1,4 +1,4 @@
--- Bytes have an answer as a table text.
+-- Bytes have a result as a table text.
 use Rattle.std.proofs.Common.{◌≡◌, ℕ, zero, suc, ◌+◌, ◌^◌, ◌<◌, ◌≤◌, Bool, true, false, eqb, List, [], ◌∷◌, ◌++◌, length, get_or, drop, refl, sym, ◌∙◌, ap, subst, append_assoc, append-nil, arith, inl, inr, ◌⊎◌, ⊎_elim, eq-eqb}
 use Rattle.std.specs.Prelude.{codes, Ok, Err, Option, Some, None}
 use Rattle.std.proofs.lemmas.Bool.{cases_lt, cases_Bool, eqb-true}
@@ -95,7 +95,7 @@ known_line (b ∷ bytes) = joined (known_eqb b line_feed) (known_line bytes) whe
 
 -- ---- the row that comes next
 
--- the last row, where there is one, has a lesser word
+-- the last row, if there is one, has a lesser word
 abbrev IsAbove : List Row → Row → Type 0
 IsAbove rows row = (i : ℕ) (d : Row) → i + 1 ≡ length rows → (get_or rows i d).word < row.word
 
@@ -124,7 +124,7 @@ known_last k both_ rows row =
       joined (inl p) = inl (record { word = p.0; count = p.1.0; formed = p.1.1.0; small = p.1.1.1.0; above = p.1.1.1.1 })
       joined (inr p) = inr (λ l. p (l.word, (l.count, (l.formed, (l.small, l.above)))))
 
--- the row of these numbers stands next, and may come next
+-- the row with these numbers is next, and may come next
 abbrev IsNext : TallySeen → List ℕ → ℕ → ℕ → Type 0
 IsNext front rest word count = IsLast front.k front.both front.rows (record { word = word; count = count }) × BeginsWith rest (row_in_columns front.k false (record { word = word; count = count }))
 
@@ -158,7 +158,7 @@ next_row front {origin} rest lawful = found (known_next front rest) where
       let small = l.small in
       none (row.word, l.word, (row.count, omega (arith, small), (l, at))))
 
--- ---- the answer
+-- ---- the result
 
 abbrev Answer : List ℕ → Type 0
 Answer bytes = (answer : Answered) × IsTableOf bytes answer
@@ -177,14 +177,14 @@ rows_push k [] row = sym (append-nil (row_in_columns k false row))
 rows_push k (first ∷ rows) row =
     append_assoc (row_in_columns k false first) (rows_text k rows) (row_in_columns k false row) ∙ ap (λ v. row_in_columns k false first ++ v) (rows_push k rows row)
 
--- the header and the rows, and one row more
+-- the header and the rows, and one more row
 pub front_push : (front : TallySeen) (origin : Option Origin) (row : Row)
     → front_text front.k front.both origin front.rows ++ row_in_columns front.k false row ≡ front_text front.k front.both origin (front.rows ++ row ∷ [])
 front_push front origin row =
     let header = ended (header_line front.k front.both origin) in
     append_assoc header (rows_text front.k front.rows) (row_in_columns front.k false row) ∙ ap (λ v. header ++ v) (rows_push front.k front.rows row)
 
--- the reading with one row more
+-- the reading with one more row
 one_more : (bytes : List ℕ) (front : TallySeen) (origin : Option Origin) (row : Row) (rest more : List ℕ) → ReadsTo bytes front origin rest → MayFollow front row
     → rest ≡ row_in_columns front.k false row ++ more → ReadsTo bytes (record front { rows = front.rows ++ row ∷ [] }) origin more
 one_more bytes front origin row rest more reads follows split =
@@ -195,7 +195,7 @@ one_more bytes front origin row rest more reads follows split =
       split = reads.split ∙ ap (λ v. text ++ v) split ∙ sym (append_assoc text line more) ∙ ap (λ v. v ++ more) (front_push front origin row);
     }
 
--- the answer, where the rows go on with an answer for each shorter rest
+-- the result, if the rows go on with a result for each shorter rest
 answer_here : (bytes : List ℕ) (front : TallySeen) (origin : Option Origin) (rest : List ℕ) → ReadsTo bytes front origin rest
     → ((later : TallySeen) (more : List ℕ) → length more < length rest → ReadsTo bytes later origin more → Answer bytes)
     → GoesOn front rest ⊎ Stops front.k front.both front.rows rest → Answer bytes
@@ -233,7 +233,7 @@ known_header bytes origin =
     first_below (Heads bytes origin)
     (λ k. both _ _ (known_le 1 k) (either _ _ (known_front bytes (ended (header_line k true origin))) (known_front bytes (ended (header_line k false origin))))) 32
 
--- some origin of these numbers is said
+-- some origin with these numbers is there
 abbrev Said : List ℕ → ℕ → ℕ → Type 0
 Said bytes floor reads =
     HasHeader bytes (Some (record { floor = floor; reads = reads; listed = true }))
@@ -248,7 +248,7 @@ known_origin bytes =
     (λ floor. both _ _ (known_le 33 floor) (first_below (λ reads. Said bytes floor reads) (λ reads. either _ _ (known_header bytes (Some (record { floor = floor; reads = reads; listed = true }))) (known_header bytes (Some (record { floor = floor; reads = reads; listed = false })))) (2 ^ 62 + 1)))
     127
 
--- behind the header, no row is read yet
+-- after the header, no row is read yet
 no_row_yet : (bytes : List ℕ) (k : ℕ) (both_ : Bool) (origin : Option Origin) (rest : List ℕ) → 1 ≤ k → k ≤ 31 → MaySay origin
     → bytes ≡ ended (header_line k both_ origin) ++ rest → ReadsTo bytes (record { k = k; both = both_; rows = [] }) origin rest
 no_row_yet bytes k both_ origin rest some most said split = record {

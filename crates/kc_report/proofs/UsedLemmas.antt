@@ -10,7 +10,7 @@ use Rattle.kc_gzip.specs.Intakes.{TakesAll, TakingFails, Unread, nothing_taken, 
 use Rattle.kc_gzip.specs.Intakes.{FillingFails, Skips}
 use Rattle.kc_gzip.proofs.IntakesLemmas.{taken_none, taken_in_vain, taken_filled, taken_ended, taken_fails, fits_came}
 
--- since the start these bytes came and were used, and behind them those that are unread; together with what may still
+-- since the start these bytes came and were used, and after them those that are unread; together with what may still
 -- come they are the limit
 pub record Used (start now : Seen) (limit : ℕ) (used : List ℕ) (unread : Unread) : Type 0 where
   pub taken : TakenSoFar start now limit unread (used ++ unread.bytes)
@@ -49,7 +49,7 @@ used_up {start} {now} {limit} {used} {unread} n u =
       room = ap (λ v. length v + unread.room) (sym all) ∙ u.room;
     }
 
--- the source has told its end, and all came that it says
+-- the source has returned its end, and its whole text came
 pub used_ended : {start now : Seen} {limit : ℕ} {used : List ℕ} {unread : Unread} → Used start now limit used unread
     → Ended unread → TakesAll start now limit (used ++ unread.bytes)
 used_ended u ended = taken_ended u.taken ended

@@ -15,14 +15,14 @@ use Rattle.kc_report.specs.Dumping.{row_in_columns}
 use Rattle.kc_report.specs.Table.{rows_text, end_text, header_line, ended}
 use Rattle.kc_report.specs.RowsWritten.{HasPutRows, WritingStand, front_of, text_of}
 
--- a front was taken, and the rest is left of the text
+-- a prefix was taken, and the rest is left of the text
 pending_of : (start now : Written) (text left : List ℕ) → Drains start now text left → Pending start now text left
 pending_of start now text left d = record { front = d.front; whole = d.split; taken = d.taken }
 
 drains_of : (start now : Written) (text left : List ℕ) → Pending start now text left → Drains start now text left
 drains_of start now text left p = record { front = p.front; taken = p.taken; split = p.whole }
 
--- more text comes behind what is left
+-- more text follows what is left
 pub drains_more : (start now : Written) (text left more : List ℕ) → Drains start now text left
     → Drains start now (text ++ more) (left ++ more)
 drains_more start now text left more d = record {
@@ -31,7 +31,7 @@ drains_more start now text left more d = record {
   split = ap (λ v. v ++ more) d.split ∙ append_assoc d.front left more;
 }
 
--- one draining behind another
+-- one draining after another
 pub drains_both : (start now next : Written) (text left room : List ℕ) → Drains start now text left → Drains now next left room
     → Drains start next text room
 drains_both start now next text left room d e = record {
@@ -58,7 +58,7 @@ drains_written start now next text left r d w =
 pub drains_none : (seen : Written) (text : List ℕ) → Drains seen seen text text
 drains_none seen text = drains_of seen seen text text (begin seen text)
 
--- a beginning of a front of a text is one of the text
+-- a beginning of a prefix of a text is one of the text
 pub begun_more : (start now : Written) (text more : List ℕ) → HasBegun start now text → HasBegun start now (text ++ more)
 begun_more start now text more h = record {
   front = h.front;
@@ -90,7 +90,7 @@ total_of-push rows row =
 
 -- ---- the calls
 
--- room was made, and the row was put behind what was left
+-- room was made, and the row was appended to what was left
 pub puts_row : (start now next : Written) (header : Header) (rows : List Row) (row : Row) (old new : WritingStand) (room : List ℕ)
     → HasPutRows start now header rows old → Drains now next old.waiting room
     → new.waiting ≡ room ++ row_in_columns old.k false row → new.k ≡ old.k → new.distinct ≡ old.distinct + 1
@@ -109,7 +109,7 @@ puts_row start now next header rows row old new room put moved waiting k distinc
       total = let sum = total_of-push rows row in omega (arith, total, put.total, sum);
     }
 
--- room was made, and the end line was put behind what was left and written with it
+-- room was made, and the end line was appended to what was left and written with it
 pub ends_text : {A E : Type 0} (start now next last : Written) (header : Header) (rows : List Row) (stand : WritingStand) (room after : List ℕ)
     (r : Result A E) → HasPutRows start now header rows stand → Drains now next stand.waiting room → after ≡ room ++ end_text rows
     → Writes next last r after → Writes start last r (text_of header rows)
@@ -137,7 +137,7 @@ total_of-middle done row later =
     let both = sum_by-append (λ (row : Row). row.count) done (row ∷ later) in
     let one = sum_by-cons (λ (row : Row). row.count) row later in omega (arith, both, one)
 
--- the next row of a tally may be put behind those before it
+-- the next row of a tally may be appended to those before it
 pub may_put : (start now : Written) (header : Header) (rows done left later : List Row) (row : Row) (stand : WritingStand)
     → AreRows header.k header.both rows → HasPutRows start now header done stand → rows ≡ done ++ left → left ≡ row ∷ later
     → (row.word < 4 ^ stand.k) × (1 ≤ row.count) × (stand.total + row.count ≤ 2 ^ 62)
@@ -151,7 +151,7 @@ may_put start now header rows done left later row stand are put whole split =
       omega (arith, sum, most, total),
     )
 
--- it is behind them then
+-- it is after them then
 pub next_done : (rows done left later : List Row) (row : Row) → rows ≡ done ++ left → left ≡ row ∷ later
     → rows ≡ (done ++ row ∷ []) ++ later
 next_done rows done left later row whole split =

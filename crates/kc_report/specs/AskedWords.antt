@@ -1,4 +1,4 @@
--- Words that are asked for, as numbers.
+-- The asked words, as numbers.
 use Rattle.std.specs.Prelude.{◌≡◌, ℕ, ◌==◌, Bool, List, Option, All}
 use Rattle.std.specs.List.{Contains, list_any}
 use Rattle.kc_io.specs.Sources.{Seen}
@@ -14,32 +14,32 @@ pub record WordsAsked : Type 0 where
   pub words : List ℕ
   pub passed : ℕ
 
--- a number is among these
+-- whether a number is among these
 abbrev pub is_in : List ℕ → ℕ → Bool
 is_in words word = list_any (λ asked. asked == word) words
 
--- the number of a word in the form under which it counts
+-- the number of a word, in the form under which it counts
 abbrev pub asked_number : Bool → List ℕ → ℕ
 asked_number both word = number (form both (in_upper_case word))
 
--- it is the number of one of these words, which is k bases
+-- the number is that of one of these words, which has k bases
 pub record IsAskedFor (k : ℕ) (both : Bool) (words : List (List ℕ)) (n : ℕ) : Type 0 where
   pub word : List ℕ
   pub is_one : Contains words word
   pub askable : IsAskable k word
   pub is : n ≡ asked_number both word
 
--- these are the numbers of those of the words that are k bases
+-- these are the numbers of those words that have k bases
 pub record AreNumbersOf (k : ℕ) (both : Bool) (words : List (List ℕ)) (numbers : List ℕ) : Type 0 where
   pub each : (word : List ℕ) → Contains words word → IsAskable k word → Contains numbers (asked_number both word)
   pub only : All (IsAskedFor k both words) numbers
 
--- these are kept of the words, and none is passed
+-- these numbers are kept of the words, and none is passed
 pub record AreAsked (k : ℕ) (both : Bool) (words : List (List ℕ)) (asked : WordsAsked) : Type 0 where
   pub numbers : AreNumbersOf k both words asked.words
   pub first : asked.passed ≡ 0
 
--- a tally has the counts of these words in another, and no other words
+-- `few` has the counts of these words in the tally, and no other words
 pub record HasCountsOf (tally : TallySeen) (words : List (List ℕ)) (few : TallySeen) : Type 0 where
   pub k : few.k ≡ tally.k
   pub both : few.both ≡ tally.both
@@ -47,7 +47,7 @@ pub record HasCountsOf (tally : TallySeen) (words : List (List ℕ)) (few : Tall
       → count_of few.rows (asked_number tally.both word) ≡ count_of tally.rows (asked_number tally.both word)
   pub only : All (λ row. IsAskedFor tally.k tally.both words row.word) few.rows
 
--- all bytes of the source were taken, they are a table text, and this tally has its counts of these words
+-- all bytes of the source were taken, they are a table text, and `few` has its counts of these words
 abbrev pub GivesCountsOf : Seen → Seen → ℕ → List (List ℕ) → TallySeen → Type 0
 GivesCountsOf old new limit words few =
     (table : TallySeen × Option Origin) × GivesTable old new limit table × HasCountsOf table.0 words few

@@ -1,11 +1,11 @@
--- The dump, a function of the rows of a tally: source, our formats page ("Reports").
+-- The dump, a function of a tally's rows: source, our formats page ("Reports").
 use Rattle.std.specs.Prelude.{ℕ, Bool, List, [], ◌∷◌, ◌++◌, ◌&&◌, nat_le, decimal, filter, flat_map, if◌then◌else◌}
 use Rattle.kc_kmer.specs.Word.{text}
 use Rattle.kc_tally.specs.declared.row.Row.{Row}
 use Rattle.kc_report.specs.declared.dump.Dump.{Dump}
 use Rattle.kc_report.specs.Bytes.{tab, line_feed, space, greater_than}
 
--- the row's count stands within the bounds, both of which count
+-- whether the row's count is within the bounds, inclusive
 abbrev pub is_shown : Dump → Row → Bool
 is_shown dump row = nat_le dump.lower row.count && nat_le row.count dump.upper
 
@@ -21,7 +21,7 @@ row_in_columns k with_tab row =
 abbrev pub row_text : ℕ → Dump → Row → List ℕ
 row_text k dump row = if dump.column then row_in_columns k dump.tab row else row_in_lines k row
 
--- a row's part of the dump: nothing where it isn't shown
+-- a row's part of the dump: nothing if its count is out of the bounds
 abbrev pub shown_text : ℕ → Dump → Row → List ℕ
 shown_text k dump row = if is_shown dump row then row_text k dump row else []
 

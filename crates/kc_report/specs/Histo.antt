@@ -16,7 +16,7 @@ words_with_count rows count = count_by (λ row. row.count == count) rows
 abbrev pub words_above : List Row → ℕ → ℕ
 words_above rows count = count_by (λ row. nat_lt count row.count) rows
 
--- a line: a count, and how many words have it. It is left out where there are none
+-- a line: a count, and how many words have it; no line if none has
 abbrev pub count_line : ℕ → ℕ → List ℕ
 count_line count words = if words == 0 then [] else decimal count ++ space ∷ decimal words ++ line_feed ∷ []
 
@@ -26,16 +26,16 @@ histo_text high rows =
     flat_map (λ count. count_line count (words_with_count rows count)) (range_with_len 1 high)
     ++ count_line (high + 1) (words_above rows high)
 
--- the lines of the counts from one on, of which so many words have each, and then one for all greater counts
+-- the lines of the counts from `count` on, given how many words have each, and then one for all greater counts
 unfoldable pub lines_from : ℕ → List ℕ → ℕ → List ℕ
 lines_from count [] above = count_line count above
 lines_from count (words ∷ more) above = count_line count words ++ lines_from (count + 1) more above
 
--- for each count from 1 to high how many words have it
+-- how many words have each count from 1 to high
 unfoldable pub words_by_count : ℕ → List Row → List ℕ
 words_by_count high rows = map (words_with_count rows) (range_with_len 1 high)
 
--- What a writing call does that takes memory: where that was refused, nothing was asked of the sink.
+-- The result of a call that writes and takes memory: if memory was refused, the sink was not called.
 abbrev pub WritesUnlessMemory : {A : Type 0} → Written → Written → Result A ReportFault → List ℕ → Type 0
 WritesUnlessMemory old new (Ok done) text = HasWritten old new text
 WritesUnlessMemory old new (Err Write) text = HasBegun old new text

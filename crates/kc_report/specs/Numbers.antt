@@ -1,5 +1,5 @@
--- What is counted of the rows of a table, without the rows. Source: what `jellyfish histo` and `jellyfish stats` print,
--- Marçais and Kingsford 2011.
+-- The numbers that are counted of a table's rows, without the rows. Source: what `jellyfish histo` and `jellyfish
+-- stats` print, Marçais and Kingsford 2011.
 use Rattle.std.specs.Prelude.{◌≡◌, ℕ, ◌≤◌, ◌^◌, List, Option, All}
 use Rattle.kc_io.specs.Sources.{Seen}
 use Rattle.kc_tally.specs.declared.row.Row.{Row}
@@ -16,7 +16,7 @@ pub record NumbersSeen : Type 0 where
   pub room : ℕ
   pub statistics : Statistics
 
--- these are the numbers of these rows of a table, up to this count
+-- these are the numbers of these rows of a table, up to the count `high`
 pub record IsCountOf (high : ℕ) (rows : List Row) (numbers : NumbersSeen) : Type 0 where
   pub words : numbers.words ≡ words_by_count high rows
   pub statistics : numbers.statistics ≡ statistics_of rows

@@ -1,4 +1,4 @@
--- The answer to a query, a function of a tally and the asked words: source, our formats page ("Reports").
+-- The text of a query, a function of a tally and the asked words: source, our formats page ("Reports").
 use Rattle.std.specs.Prelude.{◌≡◌, ℕ, ◌+◌, List, [], ◌∷◌, ◌++◌, map}
 use Rattle.std.specs.Prelude.{length, All, decimal, flat_map, Result, Ok, Err, IsTrue}
 use Rattle.std.specs.Char.{to_ascii_uppercase}
@@ -22,16 +22,16 @@ IsAskable k word = (length word ≡ k) × IsTrue (are_bases (in_upper_case word)
 abbrev pub asked_form : TallySeen → List ℕ → List ℕ
 asked_form tally word = form tally.both (in_upper_case word)
 
--- the line of an asked word: the form under which it counts, and its count, 0 where it has no row
+-- the line of an asked word: the form under which it counts, and its count, 0 if it has no row
 abbrev pub query_line : TallySeen → List ℕ → List ℕ
 query_line tally word =
     asked_form tally word ++ space ∷ decimal (count_of tally.rows (number (asked_form tally word))) ++ line_feed ∷ []
 
--- the lines of the asked words, in their order
+-- the lines of the asked words, in order
 abbrev pub query_text : TallySeen → List (List ℕ) → List ℕ
 query_text tally words = flat_map (query_line tally) words
 
--- the number-th word, from 1, is the first that isn't k bases
+-- word `number`, from 1, is the first that doesn't have k bases
 pub record IsFirstBadWord (k : ℕ) (words : List (List ℕ)) (number : ℕ) : Type 0 where
   pub before : List (List ℕ)
   pub word : List ℕ
@@ -41,9 +41,8 @@ pub record IsFirstBadWord (k : ℕ) (words : List (List ℕ)) (number : ℕ) : T
   pub good : All (IsAskable k) before
   pub bad : ¬ IsAskable k word
 
--- What a query does: Ok, all words are k bases, and the text is written; where one isn't, it is told and the sink
--- is as it was;
--- else the sink failed in this call, and took a beginning of the text.
+-- The result of a query. Ok: all words have k bases, and the text is written. If a word doesn't, it is reported and the
+-- sink is unchanged. Otherwise the sink failed in this call, and took a beginning of the text.
 abbrev pub Answers : {A : Type 0} → Written → Written → TallySeen → List (List ℕ) → Result A ReportFault → Type 0
 Answers old new tally words (Ok done) = All (IsAskable tally.k) words × HasWritten old new (query_text tally words)
 Answers old new tally words (Err (BadWord number)) = IsFirstBadWord tally.k words number × (new ≡ old)

@@ -1,5 +1,5 @@
--- A table text that is read row by row: the rows that were given so far, and what is kept of them. Source: our formats
--- page ("Table text").
+-- Reading a table text row by row: the rows that were given so far, and what is kept of them. Source: our formats page
+-- ("The table text").
 use Rattle.std.specs.Prelude.{◌≡◌, ℕ, ◌+◌, ◌^◌, ◌<◌, ◌≤◌, Bool, false, List, [], ◌∷◌, ◌++◌, length, take, drop}
 use Rattle.std.specs.Prelude.{Option, Some, None, Result, Ok, Err, IfSome}
 use Rattle.kc_gzip.specs.declared.unpacked_intakes.TakeFault.TheVariants as taking
@@ -20,7 +20,7 @@ use Rattle.kc_report.specs.TableReading.{BeginsWith, IsTable, HasBadHeader, HasB
 
 -- ---- what is kept of the rows
 
--- the header of a table and what is kept of its rows: numbers alone
+-- the header of a table and what is kept of its rows: numbers only
 pub record RowsRead : Type 0 where
   -- the length of the words, and whether both strands were counted
   pub k : ℕ
@@ -31,7 +31,7 @@ pub record RowsRead : Type 0 where
   pub count : ℕ
   pub total : ℕ
 
--- the rows end with one of this word, or there are none
+-- the last row has this word, or there are no rows
 abbrev pub EndWith : List Row → Option ℕ → Type 0
 EndWith rows None = rows ≡ []
 EndWith rows (Some word) = (before : List Row) × (row : Row) × (rows ≡ before ++ row ∷ []) × (row.word ≡ word)
@@ -42,7 +42,7 @@ pub record IsKeptOf (rows : List Row) (read : RowsRead) : Type 0 where
   pub count : read.count ≡ length rows
   pub total : read.total ≡ total_of rows
 
--- a row may come next
+-- the row may come next
 pub record ComesNext (read : RowsRead) (row : Row) : Type 0 where
   pub word : row.word < 4 ^ read.k
   pub formed : form read.both (text read.k row.word) ≡ text read.k row.word
@@ -50,30 +50,30 @@ pub record ComesNext (read : RowsRead) (row : Row) : Type 0 where
   pub present : 1 ≤ row.count
   pub small : read.total + row.count ≤ 2 ^ 62
 
--- no row that may come next stands in front of the bytes
+-- the bytes do not begin with a row that may come next
 abbrev pub BeginsWithNoRow : RowsRead → List ℕ → Type 0
 BeginsWithNoRow read bytes = (row : Row) → ComesNext read row → ¬ BeginsWith bytes (row_in_columns read.k false row)
 
--- one row more
+-- with one more row
 abbrev pub with_row : RowsRead → Row → RowsRead
 with_row read row =
     record read { last = Some row.word; count = read.count + 1; total = read.total + row.count }
 
--- the next row is read, and kept as the others; or none is, and what is kept stays
+-- the next row is read, and kept like the others; or none is, and what is kept is unchanged
 abbrev pub ReadsRow : RowsRead → RowsRead → Result (Option Row) ReportFault → Type 0
 ReadsRow old new (Ok (Some row)) = ComesNext old row × (new ≡ with_row old row)
 ReadsRow old new answer = new ≡ old
 
--- ---- where a reader stands
+-- ---- the state of a reader
 
 pub record TableStand : Type 0 where
   -- the header and what is kept of the rows that were given
   pub read : RowsRead
-  -- what the table was counted from, where the header says that
+  -- what the table was counted from, if the header has that
   pub origin : Option Origin
-  -- the bytes that came and were not used yet; none where the table has ended or a fault was met
+  -- the bytes that came and are not used yet; None after the end of the table or a fault
   pub unread : Option Unread
-  -- the fault that is kept, and answered from then on
+  -- the fault that is kept, and returned from then on
   pub failed : Option ReportFault
 
 -- the tally of these rows, under the header that was read
@@ -84,8 +84,8 @@ tally_of stand rows = record { k = stand.read.k; both = stand.read.both; rows = 
 abbrev pub given_text : TableStand → List Row → List ℕ
 given_text stand rows = front_text stand.read.k stand.read.both stand.origin rows
 
--- Of a source that was seen as `start`, a reader with this limit gave these rows: the bytes that came, decompressed,
--- are the header and these rows, and then the bytes that it did not use.
+-- A reader with this limit gave these rows of a source that was seen as `start`: the bytes that came, decompressed, are
+-- the header and these rows, and then the bytes that it did not use.
 pub record HasGivenRows (start now : Seen) (limit : ℕ) (rows : List Row) (stand : TableStand) : Type 0 where
   pub lawful : IsTable (tally_of stand rows) stand.origin
   pub kept : IsKeptOf rows stand.read
@@ -95,19 +95,19 @@ pub record HasGivenRows (start now : Seen) (limit : ℕ) (rows : List Row) (stan
   pub room : length (given_text stand rows ++ unread.bytes) + unread.room ≡ limit
   pub unfailed : stand.failed ≡ None
 
--- but for at most a block at their end, the unused bytes have no whole line
+-- except for at most a block at their end, the unused bytes have no whole line
 abbrev pub KeepsFew : TableStand → Type 0
 KeepsFew stand = IfSome stand.unread (λ unread. EndsWithBlock unread.bytes)
 
--- the header stays
+-- the header is unchanged
 pub record HasSameHeader (old new : TableStand) : Type 0 where
   pub k : new.read.k ≡ old.read.k
   pub both : new.read.both ≡ old.read.both
   pub origin : new.origin ≡ old.origin
 
--- ---- what a reader answers
+-- ---- the results of a reader
 
--- why no header was read: the taking failed, or all bytes were taken and do not begin with one
+-- why no header was read: taking the bytes failed, or all bytes were taken and do not begin with a header
 abbrev pub RefusesHeader : Seen → Seen → ℕ → ReportFault → Type 0
 RefusesHeader start now limit TableTooLong = TakingFails start now limit taking.TooLong
 RefusesHeader start now limit TableRead = TakingFails start now limit taking.Read
@@ -117,7 +117,7 @@ RefusesHeader start now limit Memory = TakingFails start now limit taking.Memory
 RefusesHeader start now limit BadHeader = (bytes : List ℕ) × TakesAll start now limit bytes × HasBadHeader bytes
 RefusesHeader start now limit fault = ⊥
 
--- why no row is given behind a header and these rows: the taking failed, or all bytes were taken, and behind this
+-- why no row is given after a header and these rows: taking the bytes failed, or all bytes were taken, and after this
 -- header and these rows they have this fault
 abbrev pub RefusesRow : Seen → Seen → ℕ → TallySeen → ReportFault → Type 0
 RefusesRow start now limit front TableTooLong = TakingFails start now limit taking.TooLong
@@ -131,14 +131,14 @@ RefusesRow start now limit front BadEnd =
     (bytes : List ℕ) × TakesAll start now limit bytes × ((bad : HasBadEnd bytes) × (bad.front ≡ front))
 RefusesRow start now limit front fault = ⊥
 
--- What a reader that had given these rows answers: one row more; or the end, where all bytes were taken and are the
--- table text of these rows; or why it gives none.
+-- The result of a reader that had given these rows: one more row; or the end, if all bytes were taken and are the table
+-- text of these rows; or why it gives none.
 abbrev pub GivesRow : Seen → Seen → ℕ → List Row → TableStand → Result (Option Row) ReportFault → Type 0
 GivesRow start now limit rows stand (Ok (Some row)) = HasGivenRows start now limit (rows ++ row ∷ []) stand
 GivesRow start now limit rows stand (Ok None) = GivesTable start now limit (tally_of stand rows, stand.origin)
 GivesRow start now limit rows stand (Err fault) = RefusesRow start now limit (tally_of stand rows) fault
 
--- a row that may come next stands in front of the unused bytes, and was used
+-- the unused bytes began with a row that may come next, and it was used
 pub record UsesRow (old new : TableStand) (row : Row) : Type 0 where
   pub unread : Unread
   pub still : old.unread ≡ Some unread
@@ -152,7 +152,7 @@ pub record UsesRow (old new : TableStand) (row : Row) : Type 0 where
     unread = Some (record unread { bytes = drop size unread.bytes });
   }
 
--- behind a row the header and the fault are as they were, and few bytes are unused; the end and a fault change nothing
+-- after a row, the header and the fault are unchanged, and few bytes are unused; the end and a fault change nothing
 abbrev pub Stays : TableStand → TableStand → Result (Option Row) ReportFault → Type 0
 Stays old new (Ok (Some row)) = HasSameHeader old new × (new.failed ≡ old.failed) × KeepsFew new
 Stays old new answer = new ≡ old

@@ -9,7 +9,8 @@ use Rattle.kc_report.specs.Bytes.{line_feed}
 abbrev pub named_line : List ℕ → ℕ → List ℕ
 named_line name number = name ++ decimal number ++ line_feed ∷ []
 
--- how many words occur once, how many occur, how often all of them together, and how often the one that occurs most
+-- how many words occur once, how many occur, the sum of their occurrences, and the occurrences of the most frequent
+-- word
 unfoldable pub statistics_lines : Statistics → List ℕ
 statistics_lines statistics = named_line (codes "Unique:    ") statistics.unique
     ++ named_line (codes "Distinct:  ") statistics.distinct

@@ -1,5 +1,5 @@
--- What a byte string says where it is read as a table text: the tally and the origin whose text it is, or its first
--- fault. Source, our formats page ("Table text").
+-- A byte string read as a table text: the tally and the origin with this text, or its first fault. Source, our formats
+-- page ("The table text").
 use Rattle.std.specs.Prelude.{◌≡◌, ℕ, ◌+◌, ◌≤◌, Bool, false, List}
 use Rattle.std.specs.Prelude.{[], ◌∷◌, ◌++◌, length, codes, Result, MatchResult, Option, ◌⊎◌}
 use Rattle.kc_gzip.specs.declared.unpacked_intakes.TakeFault.TheVariants as taking
@@ -15,27 +15,28 @@ use Rattle.kc_report.specs.Dumping.{row_in_columns}
 use Rattle.kc_report.specs.declared.origin.Origin.{Origin}
 use Rattle.kc_report.specs.Table.{header_line, MaySay, ended, front_text, end_text, table_text}
 
--- the bytes begin with the front
+-- the bytes begin with these
 abbrev pub BeginsWith : List ℕ → List ℕ → Type 0
 BeginsWith bytes front = (rest : List ℕ) × (bytes ≡ front ++ rest)
 
--- the bytes have a line that a line feed ends
+-- the bytes have a line that ends with a line feed
 abbrev pub HasLine : List ℕ → Type 0
 HasLine bytes = (line : List ℕ) × BeginsWith bytes (ended line)
 
--- a tally and an origin that a table can tell: its words have 1 to 31 bases, and its rows are such as a tally may have
+-- a tally and an origin that a table text can have: its words have 1 to 31 bases, and its rows are such as a tally may
+-- have
 pub record IsTable (tally : TallySeen) (origin : Option Origin) : Type 0 where
   pub some : 1 ≤ tally.k
   pub most : tally.k ≤ 31
   pub rows : AreRows tally.k tally.both tally.rows
   pub said : MaySay origin
 
--- the bytes begin with the header and the rows of such a table, and the rest comes behind them
+-- the bytes begin with the header and the rows of such a table, and the rest follows
 pub record ReadsTo (bytes : List ℕ) (front : TallySeen) (origin : Option Origin) (rest : List ℕ) : Type 0 where
   pub lawful : IsTable front origin
   pub split : bytes ≡ front_text front.k front.both origin front.rows ++ rest
 
--- a row may come next in the table
+-- the row may come next in the table
 abbrev pub MayFollow : TallySeen → Row → Type 0
 MayFollow front row = AreRows front.k front.both (front.rows ++ row ∷ [])
 
@@ -44,8 +45,8 @@ abbrev pub HasBadHeader : List ℕ → Type 0
 HasBadHeader bytes = (k : ℕ) (both : Bool) (origin : Option Origin) → 1 ≤ k → k ≤ 31 → MaySay origin
     → ¬ BeginsWith bytes (ended (header_line k both origin))
 
--- behind a header and rows stands a line that doesn't begin with `END` and isn't a row that may come next; it is the
--- number-th line
+-- after a header and rows comes a line that doesn't begin with `END` and isn't a row that may come next; its number is
+-- `number`
 pub record HasBadRow (bytes : List ℕ) (number : ℕ) : Type 0 where
   pub front : TallySeen
   pub origin : Option Origin
@@ -56,7 +57,7 @@ pub record HasBadRow (bytes : List ℕ) (number : ℕ) : Type 0 where
   pub no_row : (row : Row) → MayFollow front row → ¬ BeginsWith rest (row_in_columns front.k false row)
   pub counted : number ≡ length front.rows + 2
 
--- behind a header and rows no line is left, or one that begins with `END`, and what is left isn't the end of the table
+-- after a header and rows there is no line, or one that begins with `END`, and what is left isn't the end of the table
 pub record HasBadEnd (bytes : List ℕ) : Type 0 where
   pub front : TallySeen
   pub origin : Option Origin
@@ -87,9 +88,8 @@ pub record GivesTable (old new : Seen) (limit : ℕ) (table : TallySeen × Optio
   pub taken : TakesAll old new limit bytes
   pub has_table : HasTable bytes table
 
--- why `read_table` gave no tally: the taking failed, or all bytes were taken and have this fault. Memory was
--- refused in the
--- taking or behind it
+-- why `read_table` gave no tally: taking the bytes failed, or all bytes were taken and have this fault. Memory was
+-- refused while bytes were taken, or after that
 abbrev pub RefusesTable : Seen → Seen → ℕ → ReportFault → Type 0
 RefusesTable old new limit TableTooLong = TakingFails old new limit taking.TooLong
 RefusesTable old new limit TableRead = TakingFails old new limit taking.Read

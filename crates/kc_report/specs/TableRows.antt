@@ -1,4 +1,4 @@
--- The rows of a table text as they are read: source, our formats page ("Table text").
+-- Reading the rows of a table text: source, our formats page ("The table text").
 use Rattle.std.specs.Prelude.{◌≡◌, ℕ, ◌+◌, ◌*◌, ◌/◌, ◌%◌, ◌^◌, ◌<◌, ◌≤◌, List, [], ◌∷◌, ◌++◌, length, take, decimal}
 use Rattle.std.specs.Prelude.{slice_index, if◌then◌else◌, true}
 use Rattle.std.specs.Str.Parse.{AllDigits, digits_value}
@@ -7,7 +7,7 @@ use Rattle.kc_kmer.specs.Letter.{is_base, are_bases, code, base}
 use Rattle.kc_kmer.specs.Word.{number}
 use Rattle.kc_report.specs.Bytes.{line_feed, space}
 
--- the code of a capital letter of a base, and 4 of any other byte
+-- the code of a base's capital letter, 4 for any other byte
 abbrev pub capital_code : ℕ → ℕ
 capital_code byte = if is_base byte then code byte else 4
 
@@ -21,12 +21,11 @@ pub record IsSpelled (letters : List ℕ) (n : ℕ) : Type 0 where
   pub bases : are_bases letters ≡ true
   pub value : n ≡ number letters
 
--- a count as it stands in a row, behind a blank and before the line end
+-- a count as part of a row: after a blank, and before the line feed
 abbrev pub count_text : ℕ → List ℕ
 count_text count = space ∷ decimal count ++ line_feed ∷ []
 
--- So many digits stand in front of the bytes, and no digit comes behind them. The number is the one that they write,
--- but for multiples of 2^64.
+-- The bytes begin with `many` digits, and no digit follows them. The number is the one that they write, modulo 2^64.
 pub record HasDigits (bytes : List ℕ) (number many : ℕ) : Type 0 where
   pub within : many ≤ length bytes
   pub digits : AllDigits 10 (take many bytes)

@@ -1,4 +1,4 @@
-//! Words that are asked for, in the order of a table's rows.
+//! Asked words, in the order of a table's rows.
 ghost use Rattle.std.specs.Prelude.{◌≡◌, ◌<◌, All, IfOk, map, string_bytes, take};
 ghost use Rattle.kc_report.specs.AskedWords.{AreAsked, AreNumbersOf, is_in};
 
@@ -7,12 +7,12 @@ use kc_kmer::{K, pack};
 use std::alloc::{AllocError, Global};
 use std::marker::Model;
 
-/// Words that are asked for, sorted, in the forms under which they count. Those that are passed are not looked at any
-/// more, so that the words of a table's rows are looked for in one pass over both.
+/// Asked words, sorted, in the forms under which they count. Those that are passed are not looked at again, so the
+/// words of a table's rows are looked up in one pass over both.
 #[derive(Drop)]
 pub(crate) struct AskedWords {
     words: Vec<u64>,
-    // how many of them are below what was looked for
+    // how many of them are below the word looked up last
     passed: usize,
 }
 
@@ -28,7 +28,7 @@ impl Model for AskedWords {
 }
 
 impl AskedWords {
-    /// Those of these words that are k bases, of which none is passed.
+    /// Those of these words that have k bases; none is passed.
     pub(crate) fn of(
         alloc: Global,
         asked: &[String],
@@ -60,7 +60,7 @@ impl AskedWords {
     }
 }
 
-// The numbers of those of these words that are k bases, in the forms under which they count.
+// The numbers of those of these words that have k bases, in the forms under which they count.
 fn numbers_of(alloc: Global, asked: &[String], k: K, both: bool) -> Result<Vec<u64>, AllocError>
     ensures { IfOk result (λ numbers. AreNumbersOf k both (map string_bytes asked.now) numbers.items) }
 {

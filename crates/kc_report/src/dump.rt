@@ -14,19 +14,19 @@ use kc_tally::{Row, Rows, Tally};
 use std::alloc::Global;
 use std::thread::Threads;
 
-/// The greatest count that a dump can bound, which no count passes.
-pub const GREATEST_COUNT: u64 = 1 << 62;
+/// The greatest bound of a dump; no count is greater.
+pub const MAX_COUNT: u64 = 1 << 62;
 
-/// How a dump is laid out, and which rows it shows.
+/// The form of a dump, and which rows it prints.
 #[derive(Clone, Copy, Debug, PartialEq, Eq)]
 pub struct Dump {
-    /// A row is one line, `WORD COUNT`; else it is two, `>COUNT` and `WORD`.
+    /// A row is one line, `WORD COUNT`; otherwise it is two, `>COUNT` and `WORD`.
     pub column: bool,
-    /// In columns, a tab stands in place of the blank.
+    /// In columns, a tab replaces the blank.
     pub tab: bool,
-    /// The least count that is shown.
+    /// The least count that is printed.
     pub lower: u64,
-    /// The greatest count that is shown.
+    /// The greatest count that is printed.
     pub upper: u64,
 }
 
@@ -39,7 +39,7 @@ impl Dump {
             column: false,
             tab: false,
             lower: 0,
-            upper: GREATEST_COUNT,
+            upper: MAX_COUNT,
         }
     }
 
@@ -53,8 +53,8 @@ impl Dump {
         }
     }
 
-    /// This dump, of the rows with a count from `lower` to `upper`, both of which count.
-    pub fn between(self, lower: u64, upper: u64) -> Dump
+    /// This dump, of the rows with a count from `lower` to `upper`, inclusive.
+    pub fn with_bounds(self, lower: u64, upper: u64) -> Dump
         ensures { result ≡ record self { lower = lower; upper = upper } }
     {
         Dump {
@@ -68,7 +68,7 @@ impl Dump {
 /// Writes the dump of a tally. It takes no memory.
 ///
 /// # Errors
-/// `Write` where the writer failed or took no byte. It took a beginning of the dump.
+/// `Write` if the writer failed or took no byte. It took a beginning of the dump.
 pub fn write_dump<W: Sink>(writer: &mut W, tally: &Tally, dump: &Dump) -> Result<(), ReportFault>
     ensures written { Writes (W.seen writer.old) (W.seen writer.new) result
         (dump_text tally.now.k dump.now tally.now.rows) }
@@ -77,11 +77,11 @@ pub fn write_dump<W: Sink>(writer: &mut W, tally: &Tally, dump: &Dump) -> Result
     Ok(dump_by_blocks(writer, tally, dump)?)
 }
 
-/// Writes the dump of a tally as `write_dump` does, with the text of neighbouring rows made by so many threads side by
-/// side: at most 8 MB of it by each at a time. Where memory for that is refused, the text is made without it.
+/// Writes the dump of a tally as `write_dump` does. So many threads make the texts of neighbouring rows in parallel,
+/// each at most 8 MB at a time. If memory for that is refused, the text is made without it.
 ///
 /// # Errors
-/// `Write` where the writer failed or took no byte. It took a beginning of the dump.
+/// `Write` if the writer failed or took no byte. It took a beginning of the dump.
 pub fn write_dump_in_parallel<W: Sink, H: Threads + Sync>(
     rt: &H,
     alloc: Global,
@@ -108,7 +108,7 @@ fn dump_by_blocks<W: Sink>(writer: &mut W, tally: &Tally, dump: &Dump) -> Result
     writer.flush()
 }
 
-// Writes the dump of a tally, whose text so many threads make. Condition: one at the least.
+// Writes the dump of a tally with the text of its rows made by so many threads. Condition: at least one.
 fn dump_by_pieces<W: Sink, H: Threads + Sync>(
     rt: &H,
     alloc: Global,
@@ -141,7 +141,7 @@ pub(crate) fn hand_over_rows<W: Sink>(
     write_all(writer, block.as_slice())
 }
 
-// Puts the row behind the block, where it is shown. A block without room goes to the writer first.
+// Appends the row to the block, if it is printed. A block without room goes to the writer first.
 #[inline(always)]
 fn put_row<W: Sink>(
     writer: &mut W,
@@ -162,7 +162,7 @@ fn put_row<W: Sink>(
     Ok(())
 }
 
-// Whether the row's count stands within the bounds.
+// Whether the row's count is within the bounds.
 #[inline(always)]
 fn is_shown(dump: &Dump, row: Row) -> bool
     ensures { result ≡ is_shown dump.now row }
@@ -173,10 +173,10 @@ fn is_shown(dump: &Dump, row: Row) -> bool
 // The most letters of a word: the greatest length that a `K` can be.
 pub(crate) const WORD_SIZE: usize = 31;
 
-// The most bytes that a row takes. Beside the word and the count, a layout has at most three bytes of its own.
+// The most bytes of a row: the word, the count, and at most three bytes of the form.
 pub(crate) const ROW_SIZE: usize = WORD_SIZE + NUMBER_SIZE + 3;
 
-// Puts a row of the dump, in the layout that was asked for, at the end of the block.
+// Appends a row of the dump to the block, in the form that was asked for.
 #[inline(always)]
 fn push_row(block: &mut Block, k: K, dump: &Dump, row: Row)
     requires room { length block.old + ROW_SIZE ≤ BLOCK_SIZE }
@@ -190,7 +190,7 @@ fn push_row(block: &mut Block, k: K, dump: &Dump, row: Row)
     }
 }
 
-// Puts a word and its count, in one line, at the end of the block.
+// Appends a word and its count to the block, in one line.
 #[inline(always)]
 pub(crate) fn push_columns(block: &mut Block, k: K, tab: bool, row: Row)
     requires room { length block.old + ROW_SIZE ≤ BLOCK_SIZE }
@@ -207,7 +207,7 @@ pub(crate) fn push_columns(block: &mut Block, k: K, tab: bool, row: Row)
     block.push(b"\n");
 }
 
-// Puts `>COUNT` and then the word, in two lines, at the end of the block.
+// Appends `>COUNT` and then the word to the block, in two lines.
 #[inline(always)]
 fn push_lines(block: &mut Block, k: K, row: Row)
     requires room { length block.old + ROW_SIZE ≤ BLOCK_SIZE }
@@ -221,7 +221,7 @@ fn push_lines(block: &mut Block, k: K, row: Row)
     block.push(b"\n");
 }
 
-// Puts the letters of a word at the end of the block.
+// Appends the letters of a word to the block.
 #[inline(always)]
 pub(crate) fn push_word(block: &mut Block, k: K, word: Word)
     requires room { length block.old + LETTERS_SIZE ≤ BLOCK_SIZE }
@@ -230,7 +230,7 @@ pub(crate) fn push_word(block: &mut Block, k: K, word: Word)
     ensures short { length block.new ≤ length block.old + WORD_SIZE }
 {
     let bases = k.get();
-    // the codes of the word in the highest bits, so that its letters come first
+    // the codes of the word in the highest bits, so its letters come first
     let letters = letters_of(word.0 << (64 - 2 * bases));
     block.push_front(&letters, bases as usize);
 }

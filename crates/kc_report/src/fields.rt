@@ -8,7 +8,7 @@ ghost use Rattle.kc_report.specs.TableRows.{capital_code, IsSpelled, count_text,
 use crate::letters::{codes_of_four, four_of};
 use kc_kmer::K;
 
-// What `code_of` gives of a byte that is no capital letter of a base.
+// What `code_of` returns for a byte that is no capital letter of a base.
 const NO_BASE: u8 = 4;
 
 // the code at the capital letters of the bases, and NO_BASE elsewhere
@@ -80,7 +80,7 @@ fn number_of_fours(letters: &[u8]) -> Option<u64>
     Some(number)
 }
 
-// The number of the letters, where that of those before index `from` is known.
+// The number of the letters, given that of those before index `from`.
 #[inline(always)]
 fn number_of_rest(letters: &[u8], from: usize, number: u64) -> Option<u64>
     requires short { length letters.now ≤ 31 }
@@ -100,8 +100,8 @@ fn number_of_rest(letters: &[u8], from: usize, number: u64) -> Option<u64>
     Some(number)
 }
 
-// The most digits of a count: the greatest one, 2^62, has so many.
-const MOST_DIGITS: usize = 19;
+// The most digits of a count: those of the greatest one, 2^62.
+const MAX_DIGITS: usize = 19;
 
 /// Reads a blank, a count and a line feed at the front of the bytes: the count, and how many bytes these are.
 #[inline(always)]
@@ -112,14 +112,14 @@ pub(crate) fn count_of(fields: &[u8]) -> Option<(u64, usize)>
     ensures none { IfNone result ((count : ℕ) → 1 ≤ count → count ≤ 2 ^ 62
         → ¬ BeginsWith fields.now (count_text count)) }
 {
-    // most counts are so small
+    // most counts are this small
     match digit_of(fields) {
         Some(digit) => Some((digit, 3)),
         None => long_count_of(fields),
     }
 }
 
-// The count that stands so at the front of the bytes, if it has one digit.
+// The count at the front of the bytes, in such a field, if it has one digit.
 #[inline(always)]
 fn digit_of(fields: &[u8]) -> Option<u64>
     ensures within { IfSome result (λ digit. 3 ≤ length fields.now) }
@@ -136,7 +136,7 @@ fn digit_of(fields: &[u8]) -> Option<u64>
     Some(digit as u64)
 }
 
-// The count that stands so at the front of the bytes, of any length, and how many bytes these are.
+// The count at the front of the bytes, in such a field, of any length, and how many bytes the field has.
 #[inline(always)]
 fn long_count_of(fields: &[u8]) -> Option<(u64, usize)>
     ensures within { IfSome result (λ found. found.1 ≤ length fields.now) }
@@ -149,7 +149,7 @@ fn long_count_of(fields: &[u8]) -> Option<(u64, usize)>
         return None;
     };
     let (count, many) = digits_of(digits);
-    if many < 1 || many > MOST_DIGITS || many == digits.len() {
+    if many < 1 || many > MAX_DIGITS || many == digits.len() {
         return None;
     }
     if digits[0] == b'0' || digits[many] != b'\n' {
@@ -158,8 +158,8 @@ fn long_count_of(fields: &[u8]) -> Option<(u64, usize)>
     Some((count, many + 2))
 }
 
-// The number that the digits in front of bytes write, and how many they are. With 20 digits or more the number may have
-// wrapped.
+// The number in the digits at the front of the bytes, and how many digits there are. With 20 digits or more the number
+// may have wrapped.
 #[inline(always)]
 pub(crate) fn digits_of(bytes: &[u8]) -> (u64, usize)
     ensures { HasDigits bytes.now result.0 result.1 }

@@ -1,4 +1,4 @@
-//! The fields of a table's header, each where it stands in a header. Of any other line they say nothing.
+//! The fields of a table's header, each at its place in a header. For any other line their values mean nothing.
 ghost use Rattle.std.specs.Prelude.{◌≡◌, ℕ, ◌≤◌, ◌<◌, ◌^◌, List, Bool, ◌∷◌, ◌++◌, Option, Some, decimal};
 ghost use Rattle.kc_report.specs.declared.origin.Origin.{Origin};
 ghost use Rattle.kc_report.specs.Table.{origin_text, header_line, MaySay, ended};
@@ -7,7 +7,7 @@ use crate::fields::digits_of;
 use crate::origin::Origin;
 use kc_kmer::K;
 
-// What the line says, where it is a header.
+// The fields of the line, if it is a header.
 pub(crate) fn likely_header(line: &[u8]) -> Option<(K, bool, Option<Origin>)>
     ensures { (k : ℕ) (both : Bool) (origin : Option Origin) → 1 ≤ k → k ≤ 31 → MaySay origin
         → line.now ≡ ended (header_line k both origin) → result ≡ Some (k, both, origin) }
@@ -19,7 +19,7 @@ pub(crate) fn likely_header(line: &[u8]) -> Option<(K, bool, Option<Origin>)>
     let [_, kind, fields @ ..] = fields else {
         return None;
     };
-    if bases > K::MOST as u64 {
+    if bases > K::MAX as u64 {
         return None;
     }
     let Some(k) = K::new(bases as u32) else {
@@ -28,7 +28,7 @@ pub(crate) fn likely_header(line: &[u8]) -> Option<(K, bool, Option<Origin>)>
     Some((k, *kind == b'c', likely_origin(fields)))
 }
 
-// The origin that stands in front of the line end, where there is one.
+// The origin before the line end, if there is one.
 fn likely_origin(fields: &[u8]) -> Option<Origin>
     ensures { (origin : Option Origin) → MaySay origin → fields.now ≡ ended (origin_text origin) → result ≡ origin }
 {
@@ -50,7 +50,7 @@ fn likely_origin(fields: &[u8]) -> Option<Origin>
     })
 }
 
-// The number in front of the bytes, where a byte that is below the digits ends it, and what comes from that byte on.
+// The number at the front of the bytes, if a byte below the digits ends it, and the rest from that byte on.
 fn number_in_front(bytes: &[u8]) -> (u64, &[u8])
     ensures { (n stop : ℕ) (rest : List ℕ) → n < 2 ^ 64 → stop < 48 → bytes.now ≡ decimal n ++ stop ∷ rest
         → (result.0 ≡ n) × (result.1.now ≡ stop ∷ rest) }

@@ -14,15 +14,15 @@ use kc_lemmas::zeros;
 use kc_tally::{Histogram, Tally};
 use std::alloc::{AllocError, Global};
 
-/// The greatest count that a histogram can have a line of its own for.
-pub const GREATEST_HIGH: u64 = 10_000_000;
+/// The greatest count that can have a line of its own in a histogram.
+pub const MAX_HIGH: u64 = 10_000_000;
 
 /// Writes the histogram of a tally: a line for each count from 1 to `high` that words have, and one for all greater
 /// counts. Condition: `high` is 1 to 10,000,000.
 ///
 /// # Errors
-/// `Write` where the writer failed or took no byte. It took a beginning of the text. `Memory` where a growth was
-/// refused; the writer was not touched.
+/// `Write` if the writer failed or took no byte. It took a beginning of the text. `Memory` if a growth was refused; the
+/// writer was not called.
 pub fn write_histo<W: Sink>(
     alloc: Global,
     writer: &mut W,
@@ -30,7 +30,7 @@ pub fn write_histo<W: Sink>(
     high: u64,
 ) -> Result<(), ReportFault>
     requires some { 1 ≤ high }
-    requires most { high ≤ GREATEST_HIGH }
+    requires most { high ≤ MAX_HIGH }
     ensures { WritesUnlessMemory (W.seen writer.old) (W.seen writer.new) result (histo_text high tally.now.rows) }
 {
     let rows = tally.row_count();
@@ -42,11 +42,11 @@ pub fn write_histo<W: Sink>(
     Ok(histo_by_blocks(writer, &words, above)?)
 }
 
-/// Writes the histogram of a tally whose bins these are, without its rows. It takes no memory. Conditions: the bins are
-/// those of fewer than 2^64 rows, and `high` is 1 to 10,000.
+/// Writes the histogram of a tally from its bins, without its rows. It takes no memory. Conditions: the bins are those
+/// of fewer than 2^64 rows, and `high` is 1 to 10,000.
 ///
 /// # Errors
-/// `Write` where the writer failed or took no byte. It took a beginning of the text.
+/// `Write` if the writer failed or took no byte. It took a beginning of the text.
 pub fn write_histo_of_bins<W: Sink>(
     writer: &mut W,
     bins: &Histogram,
@@ -64,7 +64,7 @@ pub fn write_histo_of_bins<W: Sink>(
     Ok(histo_by_blocks(writer, words, above)?)
 }
 
-// The number of a tally's last bin. The bins before it have one count each.
+// The number of a tally's last bin. Each bin before it has one count.
 const LAST_BIN: u64 = 10_001;
 
 // The sum of these numbers. Condition: it fits.
@@ -79,9 +79,9 @@ pub(crate) fn sum_of(numbers: &[u64]) -> u64
     total
 }
 
-// How many words have each count from 1 to high, where the bins don't know them all: row by row.
+// How many words have each count from 1 to `high`, if the bins don't have all of these: row by row.
 fn words_of_rows(alloc: Global, tally: &Tally, high: u64) -> Result<Vec<u64>, AllocError>
-    requires { high ≤ GREATEST_HIGH }
+    requires { high ≤ MAX_HIGH }
     ensures words { IfOk result (λ words. words.items ≡ words_by_count high tally.now.rows) }
     ensures bounded { IfOk result (λ words. vec_capacity words ≤ high) }
 {
@@ -102,8 +102,8 @@ fn count_rows(words: &mut [u64], tally: &Tally)
     }
 }
 
-// Writes the lines of the counts from 1 on, of which so many words have each, and that of all greater counts, a block
-// at a time.
+// Writes the lines of the counts from 1 on, given how many words have each, and that of all greater counts, a block at
+// a time.
 pub(crate) fn histo_by_blocks<W: Sink>(
     writer: &mut W,
     words: &[u64],
@@ -120,10 +120,10 @@ pub(crate) fn histo_by_blocks<W: Sink>(
     write_out(writer, block.as_slice())
 }
 
-// The most bytes that a line takes: two numbers, the blank between them and the end.
+// The most bytes of a line: two numbers, the blank between them and the end.
 const LINE_SIZE: usize = 2 * NUMBER_SIZE + 2;
 
-// Puts the line of a count behind the block, where words have it. A block without room goes to the writer first.
+// Appends the line of a count to the block, if words have it. A block without room goes to the writer first.
 fn put_line<W: Sink>(
     writer: &mut W,
     block: &mut Block,
@@ -141,7 +141,7 @@ fn put_line<W: Sink>(
     Ok(())
 }
 
-// Puts a line of the histogram, a count and how many words have it, behind the block. No words, no line.
+// Appends a line of the histogram to the block: a count and how many words have it; no line if none has.
 fn push_line(block: &mut Block, count: u64, words: u64)
     requires room { length block.old + LINE_SIZE ≤ BLOCK_SIZE }
     requires some { 0 < words }

@@ -1,10 +1,10 @@
-//! The letters of words, four at a time: what the writing and the reading of a word have in common.
+//! The letters of words, four at a time: the common part of writing and reading a word.
 ghost use Rattle.std.specs.Prelude.{◌≡◌, ℕ, ◌<◌};
 ghost use Rattle.kc_kmer.specs.Word.{number, text, reverse_complement};
 ghost use Rattle.kc_report.specs.TableRows.{four_letters};
 
-// The letters of four bases with these codes as a number of 32 bits, the first letter lowest; the codes are two bits
-// each, the first highest.
+// The letters of four bases with these codes as a number of 32 bits, the first letter lowest; a code has two bits, and
+// the first is highest.
 #[rattlefmt::skip]
 static FOURS: [u32; 256] = [
     0x41414141, 0x43414141, 0x47414141, 0x54414141, 0x41434141, 0x43434141, 0x47434141, 0x54434141,
@@ -56,12 +56,12 @@ pub(crate) fn codes_of_four(letters: u32) -> usize
     ensures below { result < 256 }
     ensures inverse { (codes : ℕ) → codes < 256 → letters ≡ four_letters codes → result ≡ codes }
 {
-    // the two bits of each letter's code, and then these one beside the other
+    // the two bits of each letter's code, which are then moved together
     let codes = ((letters >> 1) ^ (letters >> 2)) & 0x0303_0303;
     (codes.wrapping_mul(0x4010_0401) >> 24) as usize
 }
 
-// The codes of what the other strand reads of four bases with these codes.
+// The codes of the reverse complement of four bases with these codes.
 #[rattlefmt::skip]
 static TURNED: [u8; 256] = [
     255, 191, 127, 63, 239, 175, 111, 47, 223, 159, 95, 31, 207, 143, 79, 15,
@@ -82,16 +82,16 @@ static TURNED: [u8; 256] = [
     240, 176, 112, 48, 224, 160, 96, 32, 208, 144, 80, 16, 192, 128, 64, 0,
 ];
 
-/// The codes of what the other strand reads of four bases with these codes.
+/// The codes of the reverse complement of four bases with these codes.
 #[inline(always)]
-pub(crate) fn turned_four(codes: usize) -> u8
+pub(crate) fn reverse_complement_of_four(codes: usize) -> u8
     requires { codes < 256 }
     ensures { result ≡ number (reverse_complement (text 4 codes)) }
 {
     TURNED[codes]
 }
 
-/// How many letters `letters_of` gives, one more than a word may have.
+/// How many letters `letters_of` returns: one more than a word may have.
 pub(crate) const LETTERS_SIZE: usize = 32;
 
 /// The letters of 32 bases with these codes, two bits each, the first highest.

@@ -1,16 +1,15 @@
 //! Reports on a tally, each a text that is written to a `Sink`.
 //!
-//! `write_dump` writes the k-mers (words of length k) with their counts, laid out as a `Dump` says; `write_histo` how
+//! `write_dump` writes the k-mers (words of length k) with their counts, in the form of a `Dump`; `write_histo` how
 //! many words have which count; `write_stats` four numbers about all of them. Each is a function of the rows of the
 //! `Tally`. `write_table` writes the table text, from which `read_table` makes the same tally again, and `query` the
-//! counts of asked words; `table_laws` says what holds of table texts. `TableReading` gives the rows of a table text
-//! one by one, and keeps none of them; `read_numbers` keeps what a histogram and statistics need of them, and
-//! `read_asked` those of asked words. A table text that is read may be gzip. `merge` puts two tables together, and
-//! `merging_laws` says what holds of that. The `Block` of `kc_io` gathers the bytes of a text, so that the writer gets
-//! blocks of 64 KB.
+//! counts of asked words; `table_laws` has laws of table texts. `TableReading` gives the rows of a table text one by
+//! one, and keeps none of them; `read_numbers` keeps what a histogram and the statistics need of them, and `read_asked`
+//! those of asked words. A table text that is read may be gzip. `merge` adds two tables, and `merging_laws` has a law
+//! of that. The `Block` of `kc_io` gathers the bytes of a text, so that the writer gets blocks of 64 KB.
 //!
-//! `write_dump_in_parallel` and `write_table_in_parallel` write the same texts, which several threads make: each that
-//! of pieces of 8,192 rows, and the writer gets the text of one piece at a time.
+//! `write_dump_in_parallel` and `write_table_in_parallel` write the same texts with several threads. Each thread makes
+//! the text of pieces of 8,192 rows, and the writer gets the text of one piece at a time.
 //!
 //! ```ignore
 //! let mut sink = ToVec::new(Vec::new(rt.alloc()));
@@ -44,9 +43,9 @@ mod table_rows;
 mod table_sum;
 mod table_writing;
 
-pub use dump::{Dump, GREATEST_COUNT, write_dump, write_dump_in_parallel};
+pub use dump::{Dump, MAX_COUNT, write_dump, write_dump_in_parallel};
 pub use header::Header;
-pub use histogram_text::{GREATEST_HIGH, write_histo, write_histo_of_bins};
+pub use histogram_text::{MAX_HIGH, write_histo, write_histo_of_bins};
 pub use kc_io::{BLOCK_SIZE, Block, NUMBER_SIZE};
 pub use origin::Origin;
 pub use queries::{query, read_asked};
@@ -56,5 +55,5 @@ pub use table::{write_table, write_table_in_parallel};
 pub use table_numbers::{TableNumbers, read_numbers};
 pub use table_reader::read_table;
 pub use table_reading::TableReading;
-pub use table_sum::merge;
+pub use table_sum::{join_origins, merge, origins_match};
 pub use table_writing::TableWriting;

@@ -17,11 +17,11 @@ use kc_tally::{GrowingRows, Row, Tally};
 use std::alloc::Global;
 
 /// Writes the counts of the asked words, a line `WORD COUNT` for each, in the order asked: the word in upper case, in
-/// its canonical form where both strands were counted, and 0 where it does not occur. It takes no memory.
+/// its canonical form if both strands were counted, and 0 if it does not occur. It takes no memory.
 ///
 /// # Errors
-/// `BadWord` with the number of the first word, from 1, that isn't k bases of `ACGTacgt`; then nothing was written.
-/// `Write` where the writer failed or took no byte. It took a beginning of the text.
+/// `BadWord` with the number of the first word, from 1, that doesn't have k bases of `ACGTacgt`; then nothing was
+/// written. `Write` if the writer failed or took no byte. It took a beginning of the text.
 pub fn query<W: Sink>(writer: &mut W, tally: &Tally, words: &[String]) -> Result<(), ReportFault>
     ensures { Answers (W.seen writer.old) (W.seen writer.new) tally.now (map string_bytes words.now) result }
 {
@@ -31,7 +31,7 @@ pub fn query<W: Sink>(writer: &mut W, tally: &Tally, words: &[String]) -> Result
     Ok(counts_by_blocks(writer, tally, words)?)
 }
 
-// The number of the first word, from 1, that isn't k bases.
+// The number of the first word, from 1, that doesn't have k bases.
 fn first_bad_word(words: &[String], k: K) -> Option<u64>
     ensures { MatchOption result (All (IsAskable k) (map string_bytes words.now)) (IsFirstBadWord k
         (map string_bytes words.now)) }
@@ -58,7 +58,7 @@ fn counts_by_blocks<W: Sink>(writer: &mut W, tally: &Tally, words: &[String]) ->
     write_out(writer, block.as_slice())
 }
 
-// Puts an asked word, in the form under which it counts, and its count at the end of the block.
+// Appends an asked word, in the form under which it counts, and its count to the block.
 fn push_answer(block: &mut Block, tally: &Tally, asked: &[u8])
     requires room { length block.old + ROW_SIZE ≤ BLOCK_SIZE }
     requires askable { IsAskable tally.now.k asked.now }
@@ -89,9 +89,9 @@ pub(crate) fn counted_form(word: Word, k: K, both: bool) -> Word
     if both { canonical(word, k) } else { word }
 }
 
-/// Takes all bytes of the source, and answers of the tally whose table text they are the rows of those of the asked
-/// words that are k bases. It keeps these rows, the words, of the text one block and one line, and what the
-/// decompression of gzip keeps. `query` answers by it as by the whole tally.
+/// Takes all bytes of the source, a table text, and returns the rows of those asked words that have k bases, as a
+/// tally. It keeps these rows, the words, one block and one line of the text, and what the decompression of gzip keeps.
+/// `query` writes the same for it as for the whole tally.
 ///
 /// # Errors
 /// Those of `read_table`.

@@ -17,13 +17,13 @@ pub enum ReportFault {
     /// The first line of a table is no header.
     #[error("bad header")]
     BadHeader,
-    /// This line of a table, numbered from 1, is no row in its place.
+    /// This line of a table, numbered from 1, is no row that may come there.
     #[error("bad row, line {0}")]
     BadRow(u64),
-    /// A table has no end line, or a wrong one, or goes on behind it.
+    /// A table has no end line, or a wrong one, or goes on after it.
     #[error("bad end")]
     BadEnd,
-    /// The source of a table says more bytes than its limit.
+    /// The text of a table's source is longer than its limit.
     #[error("table too long")]
     TableTooLong,
     /// The source of a table failed.
@@ -41,7 +41,7 @@ pub enum ReportFault {
     /// Two tables do not match: they were not counted under one rule, or a list was given.
     #[error("tables do not match")]
     Unlike,
-    /// What two tables counted together, or their reads together, are more than a table can tell.
+    /// The counts of two tables, or their reads, add up to more than a table can have.
     #[error("sums too large")]
     TooLarge,
     /// A growth was refused.

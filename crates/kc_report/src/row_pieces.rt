@@ -1,4 +1,4 @@
-//! The text of a tally's rows, made by several threads: each makes that of whole pieces, which are rows side by side.
+//! The text of a tally's rows, made by several threads: each makes that of whole pieces, which are neighbouring rows.
 ghost use Rattle.std.specs.Prelude.{◌≡◌, ◌<◌, ◌≤◌, ◌*◌, ◌^◌, All, IfOk, length};
 ghost use Rattle.std.specs.List.{flat_map};
 ghost use Rattle.std.specs.Vec.{vec_capacity};
@@ -15,22 +15,22 @@ use std::mem::replace;
 use std::thread;
 use std::thread::Threads;
 
-// How many rows a piece has at the most, and how many bytes its text.
+// The greatest numbers of rows of a piece, and of bytes of its text.
 const PIECE_ROWS: usize = 1 << 13;
 
 const PIECE_SIZE: usize = PIECE_ROWS * ROW_SIZE;
 
-// How many pieces a thread takes at a time: much more work than it is to start a thread.
+// How many pieces a thread takes at a time: much more work than starting a thread.
 const THREAD_PIECES: usize = 16;
 
-// The text of a piece, or less, where memory for it was refused.
+// The text of a piece; less of it, if memory was refused.
 #[derive(Drop)]
 struct PieceText {
     bytes: Vec<u8>,
     whole: bool,
 }
 
-// The pieces whose text so many threads are to make, and room for some of their texts at a time.
+// The pieces whose text so many threads will make, and room for some of their texts at a time.
 #[derive(Drop)]
 struct Work<'a> {
     threads: u32,
@@ -38,8 +38,8 @@ struct Work<'a> {
     texts: Vec<PieceText>,
 }
 
-/// Hands over the dump of the tally's rows, whose text at most so many threads make. Where memory for that is refused
-/// the text is made without it. Condition: one at the least.
+/// Hands over the dump of the tally's rows, with its text made by at most so many threads. If memory for that is
+/// refused, the text is made without it. Condition: at least one.
 pub(crate) fn hand_over_in_parallel<W: Sink, H: Threads + Sync>(
     rt: &H,
     alloc: Global,
@@ -58,7 +58,7 @@ pub(crate) fn hand_over_in_parallel<W: Sink, H: Threads + Sync>(
     }
 }
 
-// The work that these rows are for so many threads. Condition: one at the least.
+// The work on these rows for so many threads. Condition: at least one.
 fn work_on<'a>(alloc: Global, threads: u32, rows: Rows<'a>) -> Result<Work<'a>, AllocError>
     requires { 1 ≤ threads }
     ensures rows { IfOk result (λ work. flat_map (λ piece. piece) work.pieces.items ≡ rows.entry) }
@@ -87,7 +87,8 @@ fn cut<'a>(alloc: Global, mut rows: Rows<'a>) -> Result<Vec<Rows<'a>>, AllocErro
     Ok(pieces)
 }
 
-// Room for the texts that are made at a time: one for each piece that so many threads take, and no more than pieces.
+// Room for the texts that are made at a time: one for each piece that so many threads take, and no more than there are
+// pieces.
 fn room_for_texts(alloc: Global, threads: u32, pieces: usize) -> Result<Vec<PieceText>, AllocError>
     requires { 1 ≤ threads }
     ensures some { IfOk result (λ texts. 1 ≤ pieces → 1 ≤ length texts.items) }
@@ -105,8 +106,8 @@ fn room_for_texts(alloc: Global, threads: u32, pieces: usize) -> Result<Vec<Piec
     Ok(texts)
 }
 
-// Hands over the dump of the rows of all pieces, whose text is made a few pieces a thread at a time. Conditions: there
-// is a thread and room for a text at the least, and the words have k bases.
+// Hands over the dump of the rows of all pieces; each thread makes the text of a few pieces at a time. Conditions:
+// there is at least one thread and room for one text, and the words have k bases.
 fn hand_over_pieces<W: Sink, H: Threads + Sync>(
     rt: &H,
     writer: &mut W,
@@ -137,8 +138,8 @@ fn hand_over_pieces<W: Sink, H: Threads + Sync>(
     Ok(())
 }
 
-// Makes the texts of the pieces, by at most so many threads. Conditions: one at the least, there are as many texts as
-// pieces, and the words have k bases.
+// Makes the texts of the pieces, with at most so many threads. Conditions: there is at least one, there are as many
+// texts as pieces, and the words have k bases.
 fn make_texts<H: Threads + Sync>(
     rt: &H,
     threads: u32,
@@ -161,7 +162,7 @@ fn make_texts<H: Threads + Sync>(
 }
 
 impl PieceText {
-    // Makes the text of the rows, or less, where memory is refused. Condition: the words have k bases.
+    // Makes the text of the rows; less of it, if memory is refused. Condition: the words have k bases.
     fn make(&mut self, rows: &Rows<'_>, k: K, dump: &Dump)
         requires { All (λ row. row.word < 4 ^ k) rows.now }
         ensures { IsTextOf k dump.now rows.now self.new }
@@ -170,12 +171,12 @@ impl PieceText {
         let mut bytes = replace(&mut self.bytes, Vec::new(alloc));
         bytes.clear();
         let mut sink = ToVec::new(bytes);
-        self.whole = hand_over_rows(&mut sink, rows.ahead(), k, dump).is_ok();
+        self.whole = hand_over_rows(&mut sink, rows.second_walk(), k, dump).is_ok();
         self.bytes = sink.into_inner();
     }
 }
 
-// Hands over the texts of the pieces. Conditions: there are as many of both, and the words have k bases.
+// Hands over the texts of the pieces. Conditions: there are as many texts as pieces, and the words have k bases.
 fn hand_over_texts<W: Sink>(
     writer: &mut W,
     pieces: &[Rows<'_>],
@@ -195,7 +196,7 @@ fn hand_over_texts<W: Sink>(
     Ok(())
 }
 
-// Hands over the text of a piece, which is made without memory, where it isn't whole.
+// Hands over the text of a piece; if it isn't whole, it is made without memory.
 fn hand_over_text<W: Sink>(
     writer: &mut W,
     piece: &Rows<'_>,
@@ -210,6 +211,6 @@ fn hand_over_text<W: Sink>(
     if text.whole {
         write_all(writer, text.bytes.as_slice())
     } else {
-        hand_over_rows(writer, piece.ahead(), k, dump)
+        hand_over_rows(writer, piece.second_walk(), k, dump)
     }
 }

@@ -14,7 +14,7 @@ use kc_tally::{Statistics, Tally};
 /// greatest count. It takes no memory.
 ///
 /// # Errors
-/// `Write` where the writer failed or took no byte. It took a beginning of the text.
+/// `Write` if the writer failed or took no byte. It took a beginning of the text.
 pub fn write_stats<W: Sink>(writer: &mut W, tally: &Tally) -> Result<(), ReportFault>
     ensures written { Writes (W.seen writer.old) (W.seen writer.new) result (statistics_text tally.now.rows) }
     ensures fault { IfErr result (λ fault. fault ≡ Write) }
@@ -22,10 +22,10 @@ pub fn write_stats<W: Sink>(writer: &mut W, tally: &Tally) -> Result<(), ReportF
     write_stats_of(writer, &statistics_of(tally))
 }
 
-/// Writes these statistics, as `write_stats` does those of a tally. It takes no memory.
+/// Writes these statistics, as `write_stats` writes those of a tally. It takes no memory.
 ///
 /// # Errors
-/// `Write` where the writer failed or took no byte. It took a beginning of the text.
+/// `Write` if the writer failed or took no byte. It took a beginning of the text.
 pub fn write_stats_of<W: Sink>(writer: &mut W, statistics: &Statistics) -> Result<(), ReportFault>
     ensures written { Writes (W.seen writer.old) (W.seen writer.new) result (statistics_lines statistics.now) }
     ensures fault { IfErr result (λ fault. fault ≡ Write) }
@@ -58,7 +58,7 @@ fn lines_of(statistics: &Statistics) -> Block
     block
 }
 
-// Puts one of the four lines, its name and its number, at the end of the block.
+// Appends one of the four lines to the block: its name and its number.
 fn push_line(block: &mut Block, name: &[u8], number: u64)
     requires room { length block.old ≤ 100 }
     requires brief { length name.now ≤ 11 }
@@ -70,7 +70,7 @@ fn push_line(block: &mut Block, name: &[u8], number: u64)
     block.push(b"\n");
 }
 
-// The greatest count, 0 where there is no row.
+// The greatest count, 0 if there is no row.
 fn greatest_count(tally: &Tally) -> u64
     ensures { result ≡ greatest_of (counts_of tally.now.rows) }
 {

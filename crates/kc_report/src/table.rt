@@ -1,4 +1,4 @@
-//! The table text of a tally, which keeps all of it.
+//! The table text of a tally, which contains all of it.
 ghost use Rattle.std.specs.Prelude.{◌≡◌, ◌+◌, ◌≤◌, ◌∷◌, ◌++◌, length, option_map, IfSome, IfErr};
 ghost use Rattle.kc_io.specs.Sinks.{Writes};
 ghost use Rattle.kc_report.specs.declared.report_faults.ReportFault.TheVariants.{Write};
@@ -18,7 +18,7 @@ use kc_tally::Tally;
 use std::alloc::Global;
 use std::thread::Threads;
 
-// The most bytes of an origin, of a header and of an end line, both with their line ends.
+// The most bytes of an origin, of a header and of an end line, the last two with their line ends.
 const ORIGIN_SIZE: usize = 2 + 1 + NUMBER_SIZE + 1 + NUMBER_SIZE;
 
 pub(crate) const HEADER_SIZE: usize = 6 + NUMBER_SIZE + 2 + ORIGIN_SIZE + 1;
@@ -26,11 +26,11 @@ pub(crate) const HEADER_SIZE: usize = 6 + NUMBER_SIZE + 2 + ORIGIN_SIZE + 1;
 pub(crate) const END_SIZE: usize = 4 + NUMBER_SIZE + 1 + NUMBER_SIZE + 1;
 
 /// Writes the table text of a tally, from which `read_table` makes the same tally and the same origin again: version 2
-/// where an origin is given, else version 1. It takes no memory. Conditions: the floor is 33 to 126, and the reads are
-/// at most 2^62.
+/// if an origin is given, otherwise version 1. It takes no memory. Conditions: the floor is 33 to 126, and the reads
+/// are at most 2^62.
 ///
 /// # Errors
-/// `Write` where the writer failed or took no byte. It took a beginning of the text.
+/// `Write` if the writer failed or took no byte. It took a beginning of the text.
 pub fn write_table<W: Sink>(
     writer: &mut W,
     tally: &Tally,
@@ -44,12 +44,12 @@ pub fn write_table<W: Sink>(
     Ok(table_by_blocks(writer, tally, origin.copied())?)
 }
 
-/// Writes the table text of a tally as `write_table` does, with the text of neighbouring rows made by so many threads
-/// side by side: at most 8 MB of it by each at a time. Where memory for that is refused, the text is made without it.
-/// Conditions: those of `write_table`.
+/// Writes the table text of a tally as `write_table` does. So many threads make the texts of neighbouring rows in
+/// parallel, each at most 8 MB at a time. If memory for that is refused, the text is made without it. Conditions: those
+/// of `write_table`.
 ///
 /// # Errors
-/// `Write` where the writer failed or took no byte. It took a beginning of the text.
+/// `Write` if the writer failed or took no byte. It took a beginning of the text.
 pub fn write_table_in_parallel<W: Sink, H: Threads + Sync>(
     rt: &H,
     alloc: Global,
@@ -89,7 +89,7 @@ fn table_by_blocks<W: Sink>(
     writing.end(writer)
 }
 
-// Writes the table text of a tally, the rows of which so many threads make. Condition: one at the least.
+// Writes the table text of a tally with the text of its rows made by so many threads. Condition: at least one.
 fn table_by_pieces<W: Sink, H: Threads + Sync>(
     rt: &H,
     alloc: Global,
@@ -111,7 +111,7 @@ fn table_by_pieces<W: Sink, H: Threads + Sync>(
     write_out(writer, block.as_slice())
 }
 
-// The header, at the end of the block.
+// Appends the header to the block.
 pub(crate) fn push_header(block: &mut Block, k: K, both: bool, origin: Option<Origin>)
     requires room { length block.old + HEADER_SIZE ≤ BLOCK_SIZE }
     ensures { block.new ≡ block.old ++ ended (header_line k both origin) }
@@ -134,7 +134,7 @@ fn version_bytes(origin: Option<Origin>) -> &'static [u8]
     }
 }
 
-// What stands in a header behind the length of the words, before an origin.
+// The part of a header after the length of the words and before an origin.
 fn kind_bytes(both: bool) -> &'static [u8]
     ensures bytes { result.now ≡ space ∷ kind both }
     ensures size { length result.now ≡ 2 }
@@ -142,7 +142,7 @@ fn kind_bytes(both: bool) -> &'static [u8]
     if both { b" c" } else { b" s" }
 }
 
-// The fields of an origin, where there is one, at the end of the block.
+// Appends the fields of an origin to the block, if there is one.
 fn push_origin(block: &mut Block, origin: Option<Origin>)
     requires room { length block.old + ORIGIN_SIZE ≤ BLOCK_SIZE }
     ensures text { block.new ≡ block.old ++ origin_text origin }
@@ -168,7 +168,7 @@ fn selection_bytes(listed: bool) -> &'static [u8]
     if listed { b" o" } else { b" a" }
 }
 
-// The end line of a table with so many rows and this sum of their counts, at the end of the block.
+// Appends the end line of a table with so many rows and this sum of their counts to the block.
 pub(crate) fn push_end(block: &mut Block, distinct: u64, total: u64)
     requires room { length block.old + END_SIZE ≤ BLOCK_SIZE }
     ensures { block.new ≡ block.old ++ ended (end_line distinct total) }

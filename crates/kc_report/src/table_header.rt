@@ -4,13 +4,13 @@ ghost use Rattle.kc_report.specs.declared.origin.Origin.{Origin};
 ghost use Rattle.kc_report.specs.Table.{header_line, MaySay, ended};
 
 use crate::header_fields::likely_header;
-use crate::origin::{LEAST_FLOOR, MOST_FLOOR, MOST_READS, Origin};
+use crate::origin::{MAX_FLOOR, MAX_READS, MIN_FLOOR, Origin};
 use crate::table::push_header;
 use crate::table_rows::is_same;
 use kc_io::Block;
 use kc_kmer::K;
 
-// The length of the words, whether both strands were counted, and the origin where there is one, that a header says.
+// The length of the words, whether both strands were counted, and the origin, if there is one, of a header.
 pub(crate) fn header_of(scratch: &mut Block, line: &[u8]) -> Option<(K, bool, Option<Origin>)>
     ensures some { IfSome result (λ head. line.now ≡ ended (header_line head.0 head.1 head.2)) }
     ensures least { IfSome result (λ head. 1 ≤ head.0) }
@@ -22,21 +22,21 @@ pub(crate) fn header_of(scratch: &mut Block, line: &[u8]) -> Option<(K, bool, Op
     let Some((k, both, origin)) = likely_header(line) else {
         return None;
     };
-    // the fields of a line that is no header may say anything
+    // the fields of a line that is no header may have any values
     if !may_say(origin) || !is_header(scratch, line, k, both, origin) {
         return None;
     }
     Some((k, both, origin))
 }
 
-// Whether a header can say the origin.
+// Whether a header can have the origin.
 fn may_say(origin: Option<Origin>) -> bool
     ensures { IsTrue result ↔ MaySay origin }
 {
     match origin {
         None => true,
         Some(origin) => {
-            origin.floor >= LEAST_FLOOR && origin.floor <= MOST_FLOOR && origin.reads <= MOST_READS
+            origin.floor >= MIN_FLOOR && origin.floor <= MAX_FLOOR && origin.reads <= MAX_READS
         }
     }
 }

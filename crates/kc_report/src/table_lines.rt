@@ -5,8 +5,8 @@ use kc_gzip::{Intake, TakeFault};
 use kc_io::Source;
 use memchr::memchr;
 
-// How many of the unread bytes the first line has, with its line end. Blocks are taken until a whole line is there, or
-// all came that the source says.
+// The length of the first line of the unread bytes, with its line end. Blocks are taken until there is a whole line, or
+// until the whole text of the source came.
 pub(crate) fn first_line<R: Source>(
     reader: &mut R,
     intake: &mut Intake,

@@ -1,4 +1,4 @@
-//! What the reports that list no rows need of a table: numbers, counted while it is read.
+//! What the reports that list no rows need of a table: numbers that are counted while it is read.
 ghost use Rattle.std.specs.Prelude.{◌≡◌, ℕ, ◌+◌, ◌≤◌, ◌^◌, ◌++◌, ◌∷◌, [], List, IfOk, IfErr};
 ghost use Rattle.std.specs.Vec.{vec_capacity};
 ghost use Rattle.kc_io.specs.Sinks.{Writes};
@@ -8,7 +8,7 @@ ghost use Rattle.kc_report.specs.Histo.{histo_text};
 ghost use Rattle.kc_report.specs.Numbers.{GivesNumbers, IsCountOf};
 ghost use Rattle.kc_report.specs.TableReading.{RefusesTable};
 
-use crate::histogram_text::{GREATEST_HIGH, histo_by_blocks, sum_of};
+use crate::histogram_text::{MAX_HIGH, histo_by_blocks, sum_of};
 use crate::report_faults::ReportFault;
 use crate::table_reading::TableReading;
 use kc_io::{Sink, Source};
@@ -17,7 +17,7 @@ use kc_tally::{Row, Statistics};
 use std::alloc::{AllocError, Global};
 use std::marker::Model;
 
-/// What is counted of the rows of a table: how many words have each count from 1 up to a greatest one, and the
+/// The numbers that are counted of a table's rows: how many words have each count from 1 up to a greatest one, and the
 /// statistics.
 ///
 /// ```ignore
@@ -44,9 +44,9 @@ impl Model for TableNumbers {
 }
 
 impl TableNumbers {
-    // Of no rows, with a place for each count from 1 to `high`.
+    // The numbers of no rows, with a place for each count from 1 to `high`.
     fn none(alloc: Global, high: u64) -> Result<TableNumbers, AllocError>
-        requires { high ≤ GREATEST_HIGH }
+        requires { high ≤ MAX_HIGH }
         ensures { IfOk result (IsCountOf high []) }
     {
         Ok(TableNumbers {
@@ -60,7 +60,7 @@ impl TableNumbers {
         })
     }
 
-    // Counts one row more. Conditions: its count is at least 1, and with it the counts are together at most 2^62.
+    // Counts one more row. Conditions: its count is at least 1, and with it the counts add up to at most 2^62.
     #[inline(always)]
     fn count(&mut self, row: Row)
         requires present { 1 ≤ row.count }
@@ -86,10 +86,10 @@ impl TableNumbers {
         &self.statistics
     }
 
-    /// Writes the histogram, as `write_histo` does that of a tally. It takes no memory.
+    /// Writes the histogram, as `write_histo` writes that of a tally. It takes no memory.
     ///
     /// # Errors
-    /// `Write` where the writer failed or took no byte. It took a beginning of the text.
+    /// `Write` if the writer failed or took no byte. It took a beginning of the text.
     pub fn write_histo<W: Sink>(&self, writer: &mut W) -> Result<(), ReportFault>
         ensures written { (high : ℕ) (rows : List Row) → IsCountOf high rows self.now
             → Writes (W.seen writer.old) (W.seen writer.new) result (histo_text high rows) }
@@ -100,8 +100,8 @@ impl TableNumbers {
     }
 }
 
-/// Takes all bytes of the source, and answers the numbers of the table whose text they are: how many words have each
-/// count from 1 to `high`, and the statistics. It keeps these numbers, of the text one block and one line, and what the
+/// Takes all bytes of the source, a table text, and returns the numbers of its table: how many words have each count
+/// from 1 to `high`, and the statistics. It keeps these numbers, one block and one line of the text, and what the
 /// decompression of gzip keeps. Condition: `high` is at most 10,000,000.
 ///
 /// # Errors
@@ -112,7 +112,7 @@ pub fn read_numbers<R: Source>(
     limit: u64,
     high: u64,
 ) -> Result<TableNumbers, ReportFault>
-    requires { high ≤ GREATEST_HIGH }
+    requires { high ≤ MAX_HIGH }
     ensures numbers { IfOk result (GivesNumbers (R.seen reader.old) (R.seen reader.new) limit high) }
     ensures bounded { IfOk result (λ numbers. numbers.room ≤ high) }
     ensures fault { IfErr result (RefusesTable (R.seen reader.old) (R.seen reader.new) limit) }

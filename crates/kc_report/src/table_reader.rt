@@ -1,4 +1,4 @@
-//! Table texts read again: from bytes to the tally that they say.
+//! Reading table texts: from bytes to their tally.
 ghost use Rattle.std.specs.Prelude.{◌≤◌, ◌^◌, IfOk, IfErr};
 ghost use Rattle.kc_report.specs.Table.{MaySay};
 ghost use Rattle.kc_report.specs.TableReading.{GivesTable, RefusesTable};
@@ -10,15 +10,15 @@ use kc_io::Source;
 use kc_tally::{GrowingRows, Tally};
 use std::alloc::Global;
 
-/// Takes all bytes of the source, and answers the tally whose table text they are, and what it was counted from where
-/// the text says that. Gzip is decompressed: then the text and the limit are of the decompressed bytes. It keeps the
-/// rows, of the text one block and one line, and what the decompression keeps. Condition: the limit is at most 2^42.
+/// Takes all bytes of the source, a table text, and returns its tally, and what it was counted from if the text has
+/// that. Gzip is decompressed: then the text and the limit are those of the decompressed bytes. It keeps the rows, one
+/// block and one line of the text, and what the decompression keeps. Condition: the limit is at most 2^42.
 ///
 /// # Errors
-/// `TableTooLong` where the source says more than `limit` bytes, `TableRead` where it failed, `BrokenGzip` where its
-/// gzip is broken, and `ShortGzip` where that is cut short, whichever the reading met first; these before any fault of
-/// the text, behind which the source is read to its end. Else the first fault of the bytes: `BadHeader`, `BadRow` with
-/// its line or `BadEnd`. `Memory` where a growth was refused.
+/// `TableTooLong` if the text is longer than `limit` bytes, `TableRead` if the source failed, `BrokenGzip` if its gzip
+/// is broken, and `ShortGzip` if that is cut short, whichever came first; these come before any fault of the text,
+/// after which the source is read to its end. Otherwise the first fault of the bytes: `BadHeader`, `BadRow` with its
+/// line or `BadEnd`. `Memory` if a growth was refused.
 pub fn read_table<R: Source>(
     alloc: Global,
     reader: &mut R,

@@ -1,4 +1,4 @@
-//! A table text that is read row by row, of which the reader keeps a block and a line.
+//! Reading a table text row by row; the reader keeps a block and a line of it.
 ghost use Rattle.std.specs.Prelude.{◌≡◌, ◌↔◌, ℕ, List, [], ◌++◌, ◌≤◌, false, length, drop, None, Some, Ok, Err};
 ghost use Rattle.std.specs.Prelude.{IsTrue, IfSome, IfNone, IfOk, IfErr};
 ghost use Rattle.kc_io.specs.Sources.{Seen};
@@ -24,12 +24,12 @@ use std::alloc::Global;
 use std::marker::Model;
 
 /// A reader of a table text, which gives its rows one after another and leaves the source with its caller. Gzip is
-/// decompressed: the text is that of the decompressed bytes. The reader keeps a block of these and one line, what the
-/// decompression keeps, and of the rows numbers alone.
+/// decompressed: the text is that of the decompressed bytes. The reader keeps one block and one line of these, what the
+/// decompression keeps, and only numbers of the rows.
 ///
-/// Contracts speak of the rows that were given so far: `HasGivenRows` with none of them holds behind `open`, `next_row`
-/// adds the row that it gives, and where it answers `None` the bytes that the source says are the table text of these
-/// rows. Each call is handed the same source, of which nobody else takes bytes meanwhile.
+/// Contracts are about the rows that were given so far: after `open`, `HasGivenRows` holds with none; `next_row` adds
+/// the row that it gives; and if it returns `None`, the text of the source is the table text of these rows. Each call
+/// is handed the same source, and nobody else takes bytes from it meanwhile.
 ///
 /// ```ignore
 /// let mut reading = TableReading::open(alloc, &mut source, limit)?;
@@ -41,7 +41,7 @@ use std::marker::Model;
 pub struct TableReading {
     rows: TableRows,
     origin: Option<Origin>,
-    // None once the table has ended, or a fault was met
+    // None after the end of the table or a fault
     intake: Option<Intake>,
     failed: Option<ReportFault>,
 }
@@ -60,14 +60,13 @@ impl Model for TableReading {
 }
 
 impl TableReading {
-    /// Takes the header of a table text. At most `limit` bytes may come of the source, here and for the rows; of gzip
+    /// Takes the header of a table text. The source may give at most `limit` bytes, here and for the rows; for gzip
     /// these are the decompressed ones.
     ///
     /// # Errors
-    /// `BadHeader` where the first line is no header; then all bytes were taken. `TableTooLong` where the source says
-    /// more than `limit` bytes, `TableRead` where it failed, `BrokenGzip` where its gzip is broken, and `ShortGzip`
-    /// where that is cut short, whichever the reading met first; these before `BadHeader`. `Memory` where a growth was
-    /// refused.
+    /// `BadHeader` if the first line is no header; then all bytes were taken. `TableTooLong` if the text is longer than
+    /// `limit` bytes, `TableRead` if the source failed, `BrokenGzip` if its gzip is broken, and `ShortGzip` if that is
+    /// cut short, whichever came first; these come before `BadHeader`. `Memory` if a growth was refused.
     pub fn open<S: Source>(
         alloc: Global,
         source: &mut S,
@@ -110,23 +109,23 @@ impl TableReading {
         self.rows.both()
     }
 
-    /// What the table was counted from, where its header says that.
+    /// What the table was counted from, if its header has that.
     pub fn origin(&self) -> Option<Origin>
         ensures { result ≡ self.now.origin }
     {
         self.origin
     }
 
-    /// The next row, or none where the text has ended: all bytes of the source were taken, and they are the table text
-    /// of the rows that were given. From then on the answer is none, and nothing more is taken.
+    /// The next row, or none if the text has ended: all bytes of the source were taken, and they are the table text of
+    /// the rows that were given. From then on the result is none, and nothing more is taken.
     ///
     /// # Errors
-    /// `TableTooLong` where the source says more bytes than the limit, `TableRead` where it failed, `BrokenGzip` where
-    /// its gzip is broken, and `ShortGzip` where that is cut short, whichever the reading met first; these before any
-    /// fault of the text, behind which the source is read to its end. Else the first fault of the bytes: `BadRow` with
-    /// its line, or `BadEnd`. `Memory` where a growth was refused. None of these comes while a row is at hand. The
-    /// fault is kept: from then on the answer is the same, nothing is taken of the source, and the reader stays as it
-    /// is.
+    /// `TableTooLong` if the text is longer than the limit, `TableRead` if the source failed, `BrokenGzip` if its gzip
+    /// is broken, and `ShortGzip` if that is cut short, whichever came first; these come before any fault of the text,
+    /// after which the source is read to its end. Otherwise the first fault of the bytes: `BadRow` with its line, or
+    /// `BadEnd`. `Memory` if a growth was refused. None of these comes while there is a row in the bytes that were
+    /// taken. The fault is kept: from then on the result is the same, nothing is taken from the source, and the reader
+    /// is unchanged.
     #[inline(always)]
     pub fn next_row<S: Source>(&mut self, source: &mut S) -> Result<Option<Row>, ReportFault>
         ensures given { (start : Seen) (limit : ℕ) (rows : List Row)
@@ -158,7 +157,7 @@ impl TableReading {
         }
     }
 
-    // The row in front of the bytes that are there, where it may come next.
+    // The row at the front of the bytes that are there, if it may come next.
     #[inline(always)]
     fn row_at_hand(&mut self) -> Option<Row>
         ensures some { IfSome result (UsesRow self.old self.new) }
@@ -212,7 +211,7 @@ impl TableReading {
         }
     }
 
-    // The next row, which the first line of the bytes has to be, or none where that is the end line.
+    // The next row, which has to be the first line of the bytes, or none if that is the end line.
     fn row_of_line<S: Source>(
         &mut self,
         source: &mut S,
@@ -252,7 +251,7 @@ impl TableReading {
     }
 }
 
-// Takes all that comes of the source, and answers whether the first `count` unread bytes are the last of all.
+// Takes all that comes from the source, and returns whether the first `count` unread bytes are the last of all.
 fn is_last<R: Source>(reader: &mut R, intake: Intake, count: usize) -> Result<bool, TakeFault>
     requires { count ≤ length intake.bytes }
     ensures last { IfOk result (λ last. (many : ℕ)

@@ -1,4 +1,4 @@
-//! What is kept of the header and the rows of a table text, as far as they were read, and the row that comes next.
+//! What is kept of the header and the rows of a table text that were read, and the row that comes next.
 ghost use Rattle.std.specs.Prelude.{◌≡◌, ◌↔◌, ◌+◌, ◌<◌, ◌≤◌, ◌^◌, true, false, length, take, None};
 ghost use Rattle.std.specs.Prelude.{IsTrue, IfSome, IfNone};
 ghost use Rattle.kc_tally.specs.declared.row.Row.{Row};
@@ -8,16 +8,16 @@ ghost use Rattle.kc_report.specs.RowByRow.{BeginsWithNoRow, ComesNext, with_row}
 ghost use Rattle.kc_report.specs.Table.{end_line, ended};
 ghost use Rattle.kc_report.specs.TableReading.{BeginsWith};
 
-use crate::dump::GREATEST_COUNT;
+use crate::dump::MAX_COUNT;
 use crate::fields::{count_of, word_of};
-use crate::letters::turned_four;
+use crate::letters::reverse_complement_of_four;
 use crate::table::push_end;
 use kc_io::Block;
 use kc_kmer::{K, Word, canonical};
 use kc_tally::Row;
 use std::marker::Model;
 
-// What is kept of the header and the rows: numbers alone.
+// What is kept of the header and the rows: only numbers.
 #[derive(Drop)]
 pub(crate) struct TableRows {
     k: K,
@@ -35,7 +35,7 @@ impl Model for TableRows {
 
     ghost view = { λ t. record { k = t.k; both = t.both; last = t.last; count = t.count; total = t.total } };
 
-    // each row counts something
+    // each row has a count of at least 1
     ghost invariant = { λ t. (t.count ≤ t.total) × (t.total ≤ 2 ^ 62) };
 }
 
@@ -74,7 +74,7 @@ impl TableRows {
         self.count + 2
     }
 
-    // The row in front of the bytes, where it may come next, and how many bytes it has.
+    // The row at the front of the bytes, if it may come next, and how many bytes it has.
     #[inline(always)]
     pub(crate) fn next_row(&self, bytes: &[u8]) -> Option<(Row, usize)>
         ensures within { IfSome result (λ found. found.1 ≤ length bytes.now) }
@@ -99,13 +99,13 @@ impl TableRows {
         if !self.rises_to(row.word) {
             return false;
         }
-        if row.count < 1 || row.count > GREATEST_COUNT - self.total {
+        if row.count < 1 || row.count > MAX_COUNT - self.total {
             return false;
         }
         is_form(Word(row.word), self.k, self.both)
     }
 
-    // Whether the word comes behind that of the last row.
+    // Whether the word is above that of the last row.
     fn rises_to(&self, word: u64) -> bool
         ensures { IsTrue result ↔ IfSome self.now.last (λ last. last < word) }
     {
@@ -115,7 +115,7 @@ impl TableRows {
         }
     }
 
-    // Puts the row behind the others. Condition: it may come next.
+    // Appends the row to the others. Condition: it may come next.
     #[inline(always)]
     pub(crate) fn push(&mut self, row: Row)
         requires { ComesNext self.old row }
@@ -136,7 +136,7 @@ impl TableRows {
     }
 }
 
-// Whether a word stands in the form under which it counts.
+// Whether a word is in the form under which it counts.
 #[inline(always)]
 fn is_form(word: Word, k: K, both: bool) -> bool
     requires { word.0 < 4 ^ k }
@@ -145,8 +145,7 @@ fn is_form(word: Word, k: K, both: bool) -> bool
     if both { is_lesser(word, k) } else { true }
 }
 
-// Whether a word does not come behind what the other strand reads. Nearly always the first four letters of both differ,
-// and tell.
+// Whether a word is at most its reverse complement. The first four letters nearly always decide that.
 #[inline(always)]
 fn is_lesser(word: Word, k: K) -> bool
     requires { word.0 < 4 ^ k }
@@ -157,7 +156,7 @@ fn is_lesser(word: Word, k: K) -> bool
         return is_canonical(word, k);
     }
     let first = word.0 >> (2 * bases - 8);
-    let opposite = turned_four((word.0 & 255) as usize) as u64;
+    let opposite = reverse_complement_of_four((word.0 & 255) as usize) as u64;
     if first == opposite {
         return is_canonical(word, k);
     }
@@ -172,7 +171,7 @@ fn is_canonical(word: Word, k: K) -> bool
     canonical(word, k).0 == word.0
 }
 
-// The row in front of the bytes, and how many bytes it has.
+// The row at the front of the bytes, and how many bytes it has.
 #[inline(always)]
 fn row_of(bytes: &[u8], k: K) -> Option<(Row, usize)>
     ensures within { IfSome result (λ found. found.1 ≤ length bytes.now) }
@@ -188,7 +187,7 @@ fn row_of(bytes: &[u8], k: K) -> Option<(Row, usize)>
     Some((Row { word, count }, letters.len() + size))
 }
 
-// Whether the bytes are what the block holds.
+// Whether the bytes are those in the block.
 pub(crate) fn is_same(block: &Block, bytes: &[u8]) -> bool
     ensures { IsTrue result ↔ (bytes.now ≡ block.now) }
 {

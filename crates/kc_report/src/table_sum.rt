@@ -1,22 +1,23 @@
 //! Two tables put together.
-ghost use Rattle.std.specs.Prelude.{◌≡◌, ◌↔◌, ◌+◌, ◌≤◌, ◌^◌, IsTrue, IfOk, option_map};
-ghost use Rattle.kc_report.specs.Merging.{IsUnlisted, HaveOneFloor, AreAlike, AreSmall, Merges};
-ghost use Rattle.kc_report.specs.Merging as specs;
+ghost use Rattle.std.specs.Prelude.{◌≡◌, ◌↔◌, ◌<◌, ◌≤◌, ◌^◌, IsTrue, IfErr, IfOk, option_map};
+ghost use Rattle.kc_report.specs.declared.report_faults.ReportFault.TheVariants.{TooLarge};
+ghost use Rattle.kc_report.specs.Merging.{AreAlike, HaveOneFloor, IsUnlisted, Merges, OriginsMatch};
+ghost use Rattle.kc_report.specs.Merging.{joined_origin, reads_together};
 ghost use Rattle.kc_report.specs.Table.{MaySay};
 
-use crate::dump::GREATEST_COUNT;
-use crate::origin::{MOST_READS, Origin};
+use crate::dump::MAX_COUNT;
+use crate::origin::{MAX_READS, Origin};
 use crate::report_faults::ReportFault;
 use kc_tally::Tally;
 use std::alloc::Global;
 
-/// The sum of two tallies, and what it was counted from: where both origins are told the reads of both, with their
+/// The sum of two tallies, and what it was counted from: if both origins are known, the reads of both, with their
 /// floor.
 ///
 /// # Errors
-/// In this order: `Unlike` where the words have not the same length, one tally counts both strands and the other does
-/// not, a list was given, or both origins are told and have different floors; `TooLarge` where the totals together, or
-/// the reads together where both origins are told, are above 2^62; `Memory` where it was refused.
+/// In this order: `Unlike` if the words have different lengths, only one tally counts both strands, a list was given,
+/// or both origins are known and have different floors; `TooLarge` if the totals, or the reads if both origins are
+/// known, add up to more than 2^62; `Memory` if it was refused.
 pub fn merge(
     alloc: Global,
     first: &Tally,
@@ -34,11 +35,11 @@ pub fn merge(
     if !are_alike(first, second, origin, other) {
         return Err(ReportFault::Unlike);
     }
-    if !are_small(first, second, origin, other) {
+    let joined = join_origins(origin, other)?;
+    if first.total() + second.total() > MAX_COUNT {
         return Err(ReportFault::TooLarge);
     }
-    let sum = Tally::sum(alloc, first, second)?;
-    Ok((sum, joined_origin(origin, other)))
+    Ok((Tally::sum(alloc, first, second)?, joined))
 }
 
 // Whether the tables match.
@@ -46,10 +47,18 @@ fn are_alike(first: &Tally, second: &Tally, origin: Option<Origin>, other: Optio
     ensures { IsTrue result ↔ AreAlike first.now second.now origin other }
 {
     let same_words = first.k().get() == second.k().get() && first.both() == second.both();
-    same_words && is_unlisted(origin) && is_unlisted(other) && have_one_floor(origin, other)
+    same_words && origins_match(origin, other)
 }
 
-// Whether no list was given, as far as the origin is told.
+/// Whether tables of these origins can be merged: no origin that is given has a list, and two that are given have one
+/// floor.
+pub fn origins_match(origin: Option<Origin>, other: Option<Origin>) -> bool
+    ensures { IsTrue result ↔ OriginsMatch origin other }
+{
+    is_unlisted(origin) && is_unlisted(other) && have_one_floor(origin, other)
+}
+
+// Whether no list was given, as far as the origin is known.
 fn is_unlisted(origin: Option<Origin>) -> bool
     ensures { IsTrue result ↔ IsUnlisted origin }
 {
@@ -59,7 +68,7 @@ fn is_unlisted(origin: Option<Origin>) -> bool
     }
 }
 
-// Whether the floors are the same where both origins are told.
+// Whether the floors are the same if both origins are given.
 fn have_one_floor(origin: Option<Origin>, other: Option<Origin>) -> bool
     ensures { IsTrue result ↔ HaveOneFloor origin other }
 {
@@ -70,39 +79,28 @@ fn have_one_floor(origin: Option<Origin>, other: Option<Origin>) -> bool
     }
 }
 
-// Whether neither sum passes 2^62.
-fn are_small(first: &Tally, second: &Tally, origin: Option<Origin>, other: Option<Origin>) -> bool
-    ensures { IsTrue result ↔ AreSmall first.now second.now origin other }
+/// The origin of two merged tables: the reads of both, with the first floor; none unless both origins are given.
+///
+/// # Errors
+/// `TooLarge` if the reads together are above 2^62.
+pub fn join_origins(
+    origin: Option<Origin>,
+    other: Option<Origin>,
+) -> Result<Option<Origin>, ReportFault>
+    ensures value { IfOk result (λ joined. joined ≡ joined_origin origin other) }
+    ensures few { IfOk result (λ joined. reads_together origin other ≤ 2 ^ 62) }
+    ensures said { MaySay origin → MaySay other → IfOk result MaySay }
+    ensures fault { IfErr result (λ fault. (fault ≡ TooLarge) × (2 ^ 62 < reads_together origin other)) }
 {
-    first.total() + second.total() <= GREATEST_COUNT && are_reads_few(origin, other)
-}
-
-// Whether the reads together are at most 2^62, where both origins are told.
-fn are_reads_few(origin: Option<Origin>, other: Option<Origin>) -> bool
-    ensures { IsTrue result ↔ (specs.reads_together origin other ≤ 2 ^ 62) }
-{
-    match (origin, other) {
-        (Some(origin), Some(other)) => {
-            origin.reads <= MOST_READS && other.reads <= MOST_READS - origin.reads
-        }
-        (Some(_), None) => true,
-        (None, _) => true,
+    let (Some(origin), Some(other)) = (origin, other) else {
+        return Ok(None);
+    };
+    if origin.reads > MAX_READS || other.reads > MAX_READS - origin.reads {
+        return Err(ReportFault::TooLarge);
     }
-}
-
-// The origin of both together. Condition: their reads together are at most 2^62.
-fn joined_origin(origin: Option<Origin>, other: Option<Origin>) -> Option<Origin>
-    requires { specs.reads_together origin other ≤ 2 ^ 62 }
-    ensures value { result ≡ specs.joined_origin origin other }
-    ensures said { MaySay origin → MaySay other → MaySay result }
-{
-    match (origin, other) {
-        (Some(origin), Some(other)) => Some(Origin {
-            floor: origin.floor,
-            reads: origin.reads + other.reads,
-            listed: false,
-        }),
-        (Some(_), None) => None,
-        (None, _) => None,
-    }
+    Ok(Some(Origin {
+        floor: origin.floor,
+        reads: origin.reads + other.reads,
+        listed: false,
+    }))
 }

@@ -1,4 +1,4 @@
-//! A table text that is written row by row, of which the writer gets a block at a time.
+//! Writing a table text row by row; the writer gets a block at a time.
 ghost use Rattle.std.specs.Prelude.{◌≡◌, ◌+◌, ◌^◌, ◌<◌, ◌≤◌, ◌++◌, ◌∷◌, [], List, OnOk, OnErr, IfSome};
 ghost use Rattle.kc_io.specs.Sinks.{Written, HasBegun, Writes};
 ghost use Rattle.kc_tally.specs.declared.row.Row.{Row};
@@ -14,11 +14,11 @@ use kc_kmer::K;
 use kc_tally::Row;
 use std::marker::Model;
 
-/// A table text that is written row by row. It keeps a block of the text, and of the rows numbers alone.
+/// A table text that is written row by row. It keeps a block of the text, and only numbers of the rows.
 ///
-/// Contracts speak of the rows that were put so far: `HasPutRows` with none of them holds after `begin`, `put` adds its
-/// row, and `end` writes the rest of the table text of these rows. Each call takes the same writer, and nobody else
-/// writes to it meanwhile.
+/// Contracts are about the rows that were put so far: after `begin`, `HasPutRows` holds with none; `put` adds its row;
+/// and `end` writes the rest of the table text of these rows. Each call takes the same writer, and nobody else writes
+/// to it meanwhile.
 ///
 /// ```ignore
 /// let mut writing = TableWriting::begin(&header);
@@ -78,11 +78,11 @@ impl TableWriting {
         self.total
     }
 
-    /// Puts a row behind those that were put. Conditions: its word has k bases, its count is at least 1, and with it
-    /// the counts are together at most 2^62.
+    /// Appends a row to those that were put. Conditions: its word has k bases, its count is at least 1, and with it the
+    /// counts add up to at most 2^62.
     ///
     /// # Errors
-    /// `Failed` where the writer failed or took no byte. It took a beginning of the header and of the rows before.
+    /// `Failed` if the writer failed or took no byte. It took a beginning of the header and of the rows before.
     #[inline(always)]
     pub fn put<W: Sink>(&mut self, writer: &mut W, row: Row) -> Result<(), Failed>
         requires below { row.word < 4 ^ self.old.k }
@@ -102,11 +102,10 @@ impl TableWriting {
         Ok(())
     }
 
-    /// Ends with the end line, which says how many rows there are and the sum of their counts, and has the writer hand
-    /// on all of the text.
+    /// Writes the end line, with the number of rows and the sum of their counts, and flushes the text.
     ///
     /// # Errors
-    /// `Failed` where the writer failed or took no byte. It took a beginning of the text.
+    /// `Failed` if the writer failed or took no byte. It took a beginning of the text.
     pub fn end<W: Sink>(self, writer: &mut W) -> Result<(), Failed>
         ensures { (start : Written) (header : Header) (rows : List Row)
             → HasPutRows start (W.seen writer.old) header rows self

@@ -52,7 +52,7 @@ weigh_at_most weight batches (batch ∷ some) differ there =
       sum_by-cons weight batch some,
     )
 
--- so they are not too many where all have together at most 2 ^ 62 positions
+-- so they are not too many if all have together at most 2 ^ 62 positions
 pub not_too_many : (k : ℕ) (batches : List NumberedPieces) → position_sum k batches ≤ 2 ^ 62 → ¬ MayBeTooMany k (Contains batches)
 not_too_many k batches small too_many =
     let positions = λ (batch : NumberedPieces). position_total k batch.pieces in

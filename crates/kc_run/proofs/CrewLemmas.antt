@@ -26,7 +26,7 @@ HaveWorked-one tickets plan seat share it = record {
       omega (arith, alone, it.booked stripe less);
 }
 
--- one worker more
+-- one more worker
 pub HaveWorked-more : (tickets : TicketsSeen) (plan : Plan) (seats : List SeatSeen) (share : ShareSeen) (seat : SeatSeen) (other : ShareSeen) → HaveWorked tickets plan seats share
     → HasWorked tickets plan seat other → HaveWorked tickets plan (seats ++ seat ∷ []) (joined_shares share other)
 HaveWorked-more tickets plan seats share seat other them it = record {
@@ -39,7 +39,7 @@ HaveWorked-more tickets plan seats share seat other them it = record {
       omega (arith, sum, entries-joined stripe share.booked other.booked, them.booked stripe less, it.booked stripe less);
 }
 
--- the workers before this number ended well
+-- the workers before this number succeeded
 abbrev pub WellBefore : {W : Type 0} → List (Result W RunFault) → ℕ → Type 0
 WellBefore results n = (i : ℕ) → i < n → EndedWell results i
 
@@ -54,14 +54,14 @@ well_more {W} results n ended worker before within here is i less =
     (worker, subst (λ k. slice_get results k ≡ Some (Ok worker)) same (slice_get-get_or results n ended within ∙ ap Some (sym here ∙ is))))
     (cases_lt i n)
 
--- the answer at an index at which a worker ended well is no fault
+-- the result at an index at which a worker succeeded is no fault
 pub no_fault_there : {W : Type 0} {fault : RunFault} (results : List (Result W RunFault)) (n : ℕ) (ended : Result W RunFault) → EndedWell results n
     → ended ≡ get_or results n ended → ended ≢ Err fault
 no_fault_there {W} {fault} results n ended (worker, there) here is =
     let both : Ok worker ≡ Err fault = sym (here ∙ get_or_from_slice_get results n (Ok worker) ended there) ∙ is in
     absurd (cc)
 
--- what holds of each fault holds of the first
+-- what holds for each fault holds for the first
 pub holds_of_first : {W : Type 0} (Q : RunFault → Type 0) (results : List (Result W RunFault)) (fault : RunFault) → All (λ result. IfErr result Q) results
     → IsFirstFault results fault → Q fault
 holds_of_first {W} Q results fault all (i, there, before) =
@@ -72,7 +72,7 @@ holds_of_first {W} Q results fault all (i, there, before) =
 pub fresh_seats : (tickets : TicketsSeen) (seats : List SeatSeen) → All (IsSeatOf tickets) seats → All (λ seat. seat.drawn ≡ []) seats → All (IsFreshSeatOf tickets) seats
 fresh_seats tickets seats own fresh k d within = record { own = own k d within; fresh = fresh k d within }
 
--- among workers that ended well is no fault
+-- among workers that succeeded is no fault
 abbrev well_of : {W : Type 0} → List W → List (Result W RunFault)
 well_of workers = map (λ worker. Ok worker) workers
 
@@ -81,7 +81,7 @@ no_fault [] j fault is = absurd (cc)
 no_fault (worker ∷ workers) zero fault is = absurd (cc)
 no_fault (worker ∷ workers) (suc j) fault is = no_fault workers j fault is
 
--- where all ended well none was refused, so they are as many as were to be started
+-- if all succeeded none was refused, so they are as many as were to be started
 pub all_started : {W : Type 0} {results : List (Result W RunFault)} (refused : Option ℕ) (threads n : ℕ) → (refused ≡ None → length results ≡ threads)
     → ((number : ℕ) → refused ≡ Some number → slice_get results threads ≡ Some (Err (NoThread number))) → (refused ≡ None → threads ≡ n)
     → (workers : List W) → map (λ worker. Ok worker) workers ≡ results → length workers ≡ n
@@ -90,7 +90,7 @@ all_started {W} {results} None threads n all last started workers well =
 all_started {W} {results} (Some number) threads n all last started workers well =
     absurd (no_fault workers threads (NoThread number) (ap (λ rs. slice_get rs threads) well ∙ last number refl))
 
--- workers that ended well are as was promised
+-- workers that succeeded are as was promised
 pub all_kept : {W : Type 0} (HasEnded : W → Type 0) (workers : List W) (results : List (Result W RunFault)) → map (λ worker. Ok worker) workers ≡ results
     → All (λ result. IfOk result HasEnded) results → All HasEnded workers
 all_kept {W} HasEnded workers results well kept k d within =

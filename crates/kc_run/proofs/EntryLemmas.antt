@@ -1,4 +1,4 @@
--- How many entries of each stripe stand among bookings.
+-- How many entries of each stripe are among bookings.
 use Rattle.std.proofs.Common.{◌≡◌, ◌≢◌, ℕ, ◌+◌, ◌≤◌, List, [], ◌∷◌, ◌++◌, cond, eq-eqb, length, length-append, map, refl, sym, ap, ◌∙◌, subst, arith, ⊎_elim}
 use Rattle.std.proofs.lemmas.Bool.{cases_lt, ne_eqb}
 use Rattle.kc_share.specs.declared.entry.Entry.{Entry}
@@ -30,7 +30,7 @@ pub record IsBookedInto (stripe at : ℕ) (entry : Entry) (share new : ShareSeen
   pub is : new ≡ with_booking share at entry
   pub here : at ≡ stripe
 
--- one booking more into the one stripe
+-- one more booking into the one stripe
 pub HaveMoreIn-more : {old : List Booking} {n : ℕ} (stripe at : ℕ) (entry : Entry) (share new : ShareSeen)
     → IsBookedInto stripe at entry share new
     → HaveMoreIn stripe (stripe + 1) n old share.booked → HaveMoreIn stripe (stripe + 1) (n + 1) old new.booked

@@ -23,13 +23,13 @@ fault_of_booking MayBeFull stripes stripe book.Stranger less full = less
 fault_of_booking MayBeFull stripes stripe book.Full less full = (less, full refl)
 fault_of_booking MayBeFull stripes stripe book.Memory less full = tt
 
--- where not too many batches may be booked, a table is full only if it may be in some counts
+-- if not too many batches may be booked, a table is full only if it may be at some counts
 pub ever_full : (TooMany : Type 0) (may_be_full : KeyCounts → ℕ → Type 0) (keys : List ℕ) → ¬ TooMany → TooMany ⊎ SomeKeyMayBeFull may_be_full keys
     → MayEverBeFull may_be_full
 ever_full TooMany may_be_full keys few (inl many) = absurd (few many)
 ever_full TooMany may_be_full keys few (inr (counts, key, there, full)) = (counts, key, full)
 
--- where there are more stripes
+-- if there are more stripes
 pub fault_of_more : (MayBeFull : Type 0) (few more : ℕ) (fault : RunFault) → few ≤ more → IsWorkerFault MayBeFull few fault
     → IsWorkerFault MayBeFull more fault
 fault_of_more MayBeFull few more run.Memory le it = it

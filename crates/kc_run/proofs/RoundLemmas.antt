@@ -10,7 +10,7 @@ use Rattle.kc_stripe.specs.Locked.{cut_entry, with_bookings}
 use Rattle.kc_run.specs.Runs.{HaveMoreIn}
 use Rattle.kc_run.proofs.EntryLemmas.{HaveMoreIn-none, HaveMoreIn-more}
 
--- a booking more for each batch
+-- one more booking for each batch
 more_for_each : {old : List Booking} (setup : StripeSetup) (stripe n : ℕ) (batches : List NumberedPieces) (share : ShareSeen)
     → HaveMoreIn stripe (stripe + 1) n old share.booked
     → HaveMoreIn stripe (stripe + 1) (n + length batches) old (with_bookings share (cuts_in (round_at setup batches stripe))).booked

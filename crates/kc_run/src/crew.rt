@@ -22,11 +22,11 @@ use std::sync::Wait;
 use std::thread;
 use std::thread::{Promise, PromisedHandle, Scope, Threads};
 
-/// What a worker's thread answers.
+/// What a worker's thread returns.
 type Ended<N> = Result<Worker<N>, RunFault>;
 
-/// What a worker's thread promises of its answer: a worker that ends well has worked with these tickets and a sheet of
-/// this plan; one that doesn't names one of the plan's stripes, as full only if one may be, or was refused memory.
+/// What a worker's thread promises for its result: a worker that succeeds has worked with these tickets and a sheet
+/// with this plan; one that fails names one of the plan's stripes, as full only if one may be, or was refused memory.
 #[derive(Drop)]
 struct Working {
     tickets: Snapshot<Tickets>,
@@ -78,8 +78,8 @@ pub(crate) fn workers_of<C: Counts, N: Terms>(
     Ok(workers)
 }
 
-/// Lets the workers work, each in a thread of its own, and waits for all of them. Where some met a fault or could not
-/// be started, the fault of the lowest-numbered one is answered.
+/// Lets the workers work, each in a thread of its own, and waits for all of them. If some failed or could not be
+/// started, the fault of the first one in their order is returned.
 pub(crate) fn work_all<
     H: Threads + Wait + Sync,
     C: Counts + Send,
@@ -118,7 +118,7 @@ pub(crate) fn work_all<
             Ok(results)
         },
     )?;
-    let ended = all_well(alloc, results)?;
+    let ended = collect_workers(alloc, results)?;
     Ok(ended)
 }
 
@@ -179,7 +179,8 @@ fn start_all<
     })
 }
 
-// Waits for the threads. Their answers are in the order of the workers, and last that one more was refused.
+// Waits for the threads. Their results are in the order of the workers, followed by the fault of a worker that could
+// not be started.
 fn join_all<R: Threads, N: Terms>(rt: &R, started: Started<N>) -> Result<Vec<Ended<N>>, AllocError>
     ensures kept { IfOk result (λ results. (tickets : TicketsSeen) (plan : Plan)
         → All (λ thread. IsPromised tickets plan thread.promise.tickets.value thread.promise.plan) started.threads.items
@@ -201,7 +202,7 @@ fn join_all<R: Threads, N: Terms>(rt: &R, started: Started<N>) -> Result<Vec<End
     Ok(results)
 }
 
-// The fault of the lowest-numbered worker that met one, and None where all ended well. Takes no memory.
+// The fault of the first worker in their order that has one, None if all succeeded. Takes no memory.
 fn first_fault<N: Books>(results: &[Ended<N>]) -> Option<RunFault>
     ensures { MatchOption result (AllEndedWell results.now) (IsFirstFault results.now) }
 {
@@ -214,9 +215,12 @@ fn first_fault<N: Books>(results: &[Ended<N>]) -> Option<RunFault>
     None
 }
 
-// The workers, where all ended well, and else the fault of the lowest-numbered one that met one. Memory is refused only
-// where all ended well.
-fn all_well<N: Books>(alloc: Global, results: Vec<Ended<N>>) -> Result<Vec<Worker<N>>, RunFault>
+// The workers, if all succeeded, otherwise the fault of the first one in their order that has one. Memory is refused
+// only if all succeeded.
+fn collect_workers<N: Books>(
+    alloc: Global,
+    results: Vec<Ended<N>>,
+) -> Result<Vec<Worker<N>>, RunFault>
     ensures well { IfOk result (λ workers. map (λ worker. Ok worker) workers.items ≡ results.items) }
     ensures first { IfErr result (λ fault.
         IsFirstFault results.items fault ⊎ ((fault ≡ Memory) × AllEndedWell results.items)) }
@@ -235,7 +239,7 @@ fn all_well<N: Books>(alloc: Global, results: Vec<Ended<N>>) -> Result<Vec<Worke
 }
 
 /// The seats of the workers, and their shares joined.
-pub(crate) fn joined<C: Counts, N: Terms>(
+pub(crate) fn join_shares<C: Counts, N: Terms>(
     alloc: Global,
     stripes: &Stripes<C, N>,
     mut workers: Vec<Worker<N>>,

@@ -1,11 +1,11 @@
 //! What workers call before and after they book a batch.
 
-/// A gate: what a worker reports of its progress, before its first and after its last booking of a batch.
+/// A gate: it is called before a worker's first and after its last booking of a batch, and so learns of the progress.
 pub trait Gate {
-    /// Before the worker books the batch of this number into its first stripe.
+    /// Before the worker books the batch with this number into its first stripe.
     fn before_book(&self, worker: u32, batch: u64);
 
-    /// After the worker has booked the batch of this number into its last stripe.
+    /// After the worker has booked the batch with this number into its last stripe.
     fn after_book(&self, worker: u32, batch: u64);
 }
 

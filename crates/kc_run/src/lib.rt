@@ -1,7 +1,7 @@
-//! Whole runs: numbered batches are counted by several workers, and gathered.
+//! Whole runs: several workers count numbered batches, and their counts are gathered.
 //!
 //! `run` counts numbered batches with several workers, each in a thread of its own, over one table in locked stripes,
-//! and answers the tally of all batches or its numbers. The workers draw the numbers of the batches from the tickets of
+//! and returns the tally of all batches or its numbers. The workers draw the numbers of the batches from the tickets of
 //! `kc_tickets`.
 //!
 //! ```ignore

@@ -8,26 +8,26 @@ use kc_stripe::BookFault;
 use std::alloc::AllocError;
 use thiserror::Error;
 
-/// Why a run gave no tally. Where several workers fail, the fault of the lowest-numbered one is answered.
+/// Why a run gave no tally. If several workers fail, the fault of the first one in their order is returned.
 #[derive(Clone, Copy, Debug, Drop, Eq, Error, PartialEq)]
 pub enum RunFault {
-    /// Refusal 31: the stripe of this number is foreign: it has another setup or number, or a batch that is not the one
-    /// given under its number, or one that was booked before.
+    /// Refusal 31: the stripe with this number is foreign: it has another setup or number, or a batch that is not the
+    /// given one with its number, or one that was booked before.
     #[error("stripe {0} is foreign")]
     Foreign(u32),
-    /// Refusal 33: the worker of this number could not be started.
+    /// Refusal 33: the worker with this number could not be started.
     #[error("no thread for worker {0}")]
     NoThread(u32),
     /// Refusal 34: memory was refused.
     #[error("no memory")]
     Memory,
-    /// Refusal 35: the hash table of the stripe of this number has no place for a key.
+    /// Refusal 35: the hash table of the stripe with this number has no place for a key.
     #[error("stripe {0} is full")]
     Full(u32),
 }
 
 impl RunFault {
-    /// The fault of a run in which the stripe of this number refused a booking.
+    /// The fault of a run in which the stripe with this number refused a booking.
     pub(crate) fn of_booking(stripe: u32, fault: BookFault) -> RunFault
         ensures { result ≡ booking_fault stripe fault }
     {

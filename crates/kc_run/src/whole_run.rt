@@ -9,7 +9,7 @@ ghost use Rattle.kc_booking.specs.Stripe.{reads_in, position_sum};
 ghost use Rattle.kc_run.specs.Runs.{HaveCounted, IsReady, IsGatheringFault, IsRunFault, MayEverBeFull};
 ghost use Rattle.kc_stripe.specs.Terms.{IsFullOnlyWhere, MayBeTooMany, SomeTableMayBeFull};
 
-use crate::crew::{joined, work_all, workers_of};
+use crate::crew::{join_shares, work_all, workers_of};
 use crate::gate::Gate;
 use crate::run_fault::RunFault;
 use crate::worker::{Job, Worker};
@@ -25,17 +25,17 @@ use std::marker::Brand;
 use std::sync::{Arc, Wait};
 use std::thread::Threads;
 
-/// Counts batches with so many workers over one table in locked stripes, and answers the summary that the caller wants:
-/// the tally of all batches or, with no row taken from a stripe, the numbers of that tally. The answer is the same
-/// whatever the workers, the stripes and the order in which threads are served. A refused run gives no summary; where
-/// its fault names a worker or a stripe, it is one of this run's. A stripe is full only if one of the tables may be
-/// full in some counts for some key.
+/// Counts batches with so many workers over one table in locked stripes, and returns the summary that the caller wants:
+/// the tally of all batches or, without its rows, the numbers of that tally. The result is the same whatever the number
+/// of workers and of stripes, and the order in which threads run. A refused run gives no summary; if its fault names a
+/// worker or a stripe, it is one of this run's. A stripe is full only if one of the tables may be full at some counts
+/// for some key.
 ///
 /// Each worker, in a thread of its own, draws numbers until there is none left, and books the batch of each number into
-/// every stripe. It does so in rounds of some 4 million positions: it cuts up all batches of a round, and books them
+/// every stripe. It works in rounds of some 4 million positions: it cuts up all batches of a round, and books them
 /// stripe by stripe. The gate is called before the first and after the last booking of a batch.
 ///
-/// Conditions: 1 to 64 workers; at most 2^40 batches, with together at most 2^62 positions; a table for each stripe,
+/// Conditions: 1 to 64 workers; at most 2^40 batches, with at most 2^62 positions together; a table for each stripe,
 /// with nothing stored and keys of the setup's `key_bits`.
 pub fn run<S: Summary, H: Threads + Wait + Sync, C: Counts + Drop + Send + Sync, G: Gate + Sync>(
     rt: &H,
@@ -62,8 +62,8 @@ pub fn run<S: Summary, H: Threads + Wait + Sync, C: Counts + Drop + Send + Sync,
         gate,
     };
     let sheet = Sheet::new(alloc, setup.stripes(), u64::from(workers))?;
-    let stripes = counted::<H, C, G, Brand>(rt, alloc, &count, tables, sheet)?;
-    gathered(rt, alloc, &count, stripes)
+    let stripes = count_batches::<H, C, G, Brand>(rt, alloc, &count, tables, sheet)?;
+    gather_summary(rt, alloc, &count, stripes)
 }
 
 // What is counted, and how.
@@ -75,9 +75,9 @@ struct Count<'a, G: Gate> {
     gate: &'a G,
 }
 
-// The stripes in which the workers booked all batches, with this sheet of shares. Every sheet has a type of its own, N,
-// so that no share of another gets in, and with it what may be booked: these batches.
-fn counted<
+// The stripes into which the workers booked all batches, with this sheet of shares. Every sheet has a type of its own,
+// N, so no share of another sheet can be used, and with it the batches that may be booked: these.
+fn count_batches<
     H: Threads + Wait + Sync,
     C: Counts + Drop + Send,
     G: Gate + Sync,
@@ -127,7 +127,7 @@ fn counted<
         stripes_apart: (setup.stripes() / workers).max(1),
     };
     let ended = work_all(rt, alloc, &job, ready)?;
-    let (seats, share) = joined(alloc, &stripes, ended)?;
+    let (seats, share) = join_shares(alloc, &stripes, ended)?;
     tickets.close(seats);
     let (stripes, _) = stripes.into_stripes(alloc, share)?;
     Ok(stripes)
@@ -135,7 +135,7 @@ fn counted<
 
 // The summary that is gathered from the stripes. No stripe lacks a batch, since each journal has as many entries as
 // there are batches.
-fn gathered<S: Summary, H: Threads + Sync, C: Counts + Drop + Send + Sync, G: Gate>(
+fn gather_summary<S: Summary, H: Threads + Sync, C: Counts + Drop + Send + Sync, G: Gate>(
     rt: &H,
     alloc: Global,
     count: &Count<G>,
@@ -149,7 +149,7 @@ fn gathered<S: Summary, H: Threads + Sync, C: Counts + Drop + Send + Sync, G: Ga
     ensures refused { IfErr result (IsGatheringFault (stripe_count count.now.setup.now)) }
 {
     let (batches, setup) = (count.batches, count.setup);
-    match S::gathered(rt, alloc, count.workers, stripes, batches, setup) {
+    match S::gather(rt, alloc, count.workers, stripes, batches, setup) {
         Ok(summary) => Ok(summary),
         Err(fault) => Err(RunFault::of_gathering(fault)),
     }

@@ -144,7 +144,7 @@ impl<N: Terms> Worker<N> {
     }
 }
 
-// Tells the gate that these batches were booked into every stripe.
+// Calls the gate for these batches, which were booked into every stripe.
 fn tell_after<G: Gate>(gate: &G, worker: u32, batches: &[Arc<Batch>]) {
     for batch in batches {
         gate.after_book(worker, batch.number());

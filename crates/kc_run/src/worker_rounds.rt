@@ -1,5 +1,5 @@
-//! A round of a worker: batches that are cut up one by one, and then booked stripe by stripe, by one call each, so that
-//! the lines of a stripe that one batch has fetched are still near for the next.
+//! A round of a worker: batches are cut up one by one, and then booked stripe by stripe, with one call each, so that a
+//! stripe's cache lines that one batch has fetched are still there for the next.
 ghost use Rattle.std.specs.Prelude.{◌≡◌, ◌*◌, ◌/◌, ◌≤◌, ◌<◌, ◌⊎◌, [], max, All, IfOk, OnOk, IfErr};
 ghost use Rattle.std.specs.Prelude.{length};
 ghost use Rattle.kc_booking.specs.Setup.{stripe_count};
@@ -13,13 +13,13 @@ use kc_table::Counts;
 use std::alloc::{AllocError, Global};
 use std::sync::Wait;
 
-// How many positions the least round has.
-const LEAST_POSITIONS: u64 = 4_000_000;
+// The least number of positions in a round.
+const MIN_POSITIONS: u64 = 4_000_000;
 
-// How many rounds each worker has at the least, where there are so many batches.
+// The least number of rounds of each worker, if there are so many batches.
 const ROUNDS: u64 = 4;
 
-// For how many slots of the hash tables the rounds of all workers have one position together.
+// The rounds of all workers together have one position for this many slots of the hash tables.
 const SLOTS_A_POSITION: u64 = 4;
 
 /// What a worker keeps from one round to the next.
@@ -46,9 +46,9 @@ impl RoundBuffers {
 /// How large the rounds of a run may be.
 #[derive(Drop)]
 pub(crate) struct RoundLimits {
-    /// How many batches a round has at the most: as many as leave each worker four rounds, and one at the least.
+    /// The greatest number of batches in a round: it leaves each worker four rounds, and is at least one.
     pub batches: u64,
-    // how many positions the least round has
+    // the least number of positions in a round
     pub positions: u64,
     // how many workers have a round at the same time
     pub workers: u64,
@@ -56,7 +56,7 @@ pub(crate) struct RoundLimits {
 }
 
 impl RoundLimits {
-    /// The limits of the rounds in which so many workers count so many batches.
+    /// The limits of rounds in which so many workers count so many batches.
     pub fn new(batches: usize, setup: &Setup, workers: u32) -> RoundLimits
         requires { 1 ≤ workers }
         ensures some { 1 ≤ result.batches }
@@ -71,14 +71,14 @@ impl RoundLimits {
         let workers = u64::from(workers);
         RoundLimits {
             batches: (batches as u64 / (ROUNDS * workers)).max(1),
-            positions: LEAST_POSITIONS.max(listed),
+            positions: MIN_POSITIONS.max(listed),
             workers,
         }
     }
 
-    /// How many positions make a round where the hash tables have so many slots: the rounds of all workers have one
-    /// for each four slots together, so that a visit of a table's cache line counts more than one key; but each has at
-    /// least 4 million or, where a list has more words, as many as it has words, since each booking compares the lists.
+    /// How many positions make a round if the hash tables have so many slots: the rounds of all workers together have
+    /// one for each four slots, so that a visit of a table's cache line counts more than one key; but each has at least
+    /// 4 million or, if a list has more words, as many as it has words, since each booking compares the lists.
     pub fn positions_for(&self, slots: u64) -> u64
         ensures { result ≡ max self.now.positions (slots / (4 * self.now.workers)) }
     {
@@ -88,9 +88,9 @@ impl RoundLimits {
 
 /// Books the batches of a round into the stripes from one number to before another.
 ///
-/// The round was cut up for these stripes, and the numbers are some of theirs. Its batches may be booked, and all that
-/// may be are not too many. It stays as it is. How many slots their hash tables have then is returned, for the size of
-/// the next round.
+/// The round was cut up for these stripes, and the numbers are some of theirs. Its batches may be booked, and all
+/// batches that may be are not too many. It is unchanged. The result is how many slots their hash tables then have, for
+/// the size of the next round.
 pub(crate) fn book_range<H: Wait, C: Counts, N: Terms>(
     rt: &H,
     stripes: &Stripes<C, N>,

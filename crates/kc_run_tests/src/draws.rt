@@ -14,7 +14,7 @@ use std::test::Fail;
 use std::thread;
 use std::thread::{Promise, PromisedHandle, Scope, Threads};
 
-// A seat of these tickets, which drew until there was no number more, and what it was answered.
+// A seat of these tickets, which drew until there was no number more, and what it was returned.
 #[derive(Drop)]
 struct Drained(Snapshot<Tickets>);
 
@@ -62,7 +62,7 @@ fn start_all<'s, E>(
     Ok(threads)
 }
 
-// The seats of the threads, and what they were answered.
+// The seats of the threads, and what they were returned.
 fn join_all<R: Threads>(
     rt: &R,
     alloc: Global,
@@ -85,7 +85,7 @@ fn join_all<R: Threads>(
     Ok((seats, all))
 }
 
-// What threads are answered, each with a seat of its own: each number below the limit, once.
+// What threads are returned, each with a seat of its own: each number below the limit, once.
 fn share_out<R: Threads + Wait>(
     rt: &R,
     alloc: Global,
@@ -142,10 +142,10 @@ fn turn_at(tickets: &Tickets, seats: &mut Vec<Seat>, index: usize) -> (Option<u6
     (number, seats[index].is_done())
 }
 
-// A seat's index, what it is to be answered, and whether it is done then.
+// A seat's index, the result of its draw, and whether it is done then.
 type Turn = (usize, Option<u64>, bool);
 
-// Lets a seat draw, and asserts what it is answered and whether it is done then.
+// Lets a seat draw, and asserts what it is returned and whether it is done then.
 fn assert_turn<R: Abort>(rt: &R, tickets: &Tickets, seats: &mut Vec<Seat>, turn: &Turn)
     requires own { All (IsSeatOf tickets.now) seats.old.items }
     ensures own { All (IsSeatOf tickets.now) seats.new.items }
@@ -157,7 +157,7 @@ fn assert_turn<R: Abort>(rt: &R, tickets: &Tickets, seats: &mut Vec<Seat>, turn:
     assert_same(rt, index, &drawn, &(number, is_done));
 }
 
-// Lets so many seats draw below a limit, in these turns.
+// Lets this many seats draw below a limit, in these turns.
 fn play<R: Abort>(
     rt: &R,
     alloc: Global,
@@ -214,7 +214,7 @@ fn as_many_seats_as_numbers_are_answered(rt: HostRuntime) -> Result<(), Fail> {
 }
 
 // The numbers of all lists, in ascending order.
-fn sorted(alloc: Global, lists: &[Vec<u64>]) -> Result<Vec<u64>, AllocError> {
+fn sorted_numbers(alloc: Global, lists: &[Vec<u64>]) -> Result<Vec<u64>, AllocError> {
     let mut all = Vec::new(alloc);
     for numbers in lists {
         all.extend_from_slice(numbers)?;
@@ -236,12 +236,12 @@ fn numbers_below(alloc: Global, limit: u64) -> Result<Vec<u64>, AllocError> {
 fn threads_are_answered_each_number_once(rt: HostRuntime) -> Result<(), Fail> {
     let alloc = rt.alloc();
     let all = share_out(&rt, alloc, 1000, 8)?;
-    let numbers = sorted(alloc, &all)?;
+    let numbers = sorted_numbers(alloc, &all)?;
     assert_same(&rt, "numbers", &numbers, &numbers_below(alloc, 1000)?);
     Ok(())
 }
 
-// Where a number stands among distinct numbers that are all below their own count.
+// The place of a number among distinct numbers that are all below their own count.
 fn index_of(numbers: &[u64], number: u64) -> usize
     requires distinct { IsDistinct nat_eq numbers.now }
     requires below { All (λ x. x < length numbers.now) numbers.now }

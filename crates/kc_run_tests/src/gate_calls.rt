@@ -1,4 +1,4 @@
-//! When workers tell the gate of a batch, in which order they visit the stripes, and what is asked of the tables.
+//! When workers call the gate for a batch, in which order they visit the stripes, and which calls the tables get.
 ghost use Rattle.std.specs.Prelude.{◌≡◌, ◌<◌, All, IfOk, length};
 ghost use Rattle.std.specs.FinMap.{empty};
 ghost use Rattle.kc_booking.specs.Setup.{stripe_count, key_bits};
@@ -46,7 +46,7 @@ impl Event {
     }
 }
 
-// All that was heard, in order. Each worker is held at its first batch until all have begun one, or for ten seconds.
+// All calls, in order. Each worker is held at its first batch until all have begun one, or for ten seconds.
 #[derive(Drop)]
 struct Log<'a, R: Wait + Clock> {
     rt: &'a R,
@@ -57,7 +57,7 @@ struct Log<'a, R: Wait + Clock> {
 }
 
 impl<R: Wait + Clock> Log<'_, R> {
-    // An event that finds no memory is left out, which no comparison passes over.
+    // An event that finds no memory is left out, which every comparison notices.
     fn note(&self, event: Event) {
         if self.events.lock(self.rt).push(event).is_err() {
             return;
@@ -170,8 +170,8 @@ fn noting_tables<'a, R: Wait + Clock>(
     Ok(tables)
 }
 
-// Of so many batches the bases: the words of a batch are its number in two bases and one base more, each of the four.
-// By the hash that leaves words as they are, the last base is a word's stripe of four, and the first two are its key.
+// The bases of so many batches: the words of a batch are its number in two bases and one more base, each of the four.
+// The hash leaves words unchanged, so the last base is a word's stripe of four, and the first two are its key.
 fn bases_of(alloc: Global, batches: u64) -> Result<Vec<u8>, AllocError> {
     let mut bases = Vec::new(alloc);
     for word in 0..4 * batches.min(16) {
@@ -183,8 +183,8 @@ fn bases_of(alloc: Global, batches: u64) -> Result<Vec<u8>, AllocError> {
     Ok(bases)
 }
 
-// All that is heard where so many workers count sixteen batches into such a summary.
-fn heard<S: Summary + Drop, H: Threads + Wait + Clock + Sync + AllocGlobal + Abort>(
+// All calls if this many workers count sixteen batches into such a summary.
+fn heard_events<S: Summary + Drop, H: Threads + Wait + Clock + Sync + AllocGlobal + Abort>(
     rt: &H,
     workers: u32,
 ) -> Result<Vec<Event>, Fail> {
@@ -200,7 +200,7 @@ fn heard<S: Summary + Drop, H: Threads + Wait + Clock + Sync + AllocGlobal + Abo
     Ok(log.events.into_inner())
 }
 
-// Counts sixteen batches by so many workers.
+// Counts sixteen batches with this many workers.
 fn count_sixteen<S: Summary + Drop, H: Threads + Wait + Clock + Sync + AllocGlobal>(
     rt: &H,
     setup: &Setup,
@@ -220,7 +220,7 @@ fn count_sixteen<S: Summary + Drop, H: Threads + Wait + Clock + Sync + AllocGlob
     }
 }
 
-// What is heard of a batch, in order, or behind all batches.
+// The calls for a batch, in order, or after all batches.
 fn events_of(
     alloc: Global,
     events: &[Event],
@@ -235,8 +235,8 @@ fn events_of(
     Ok(own)
 }
 
-// What has to be heard of a batch that a worker books from this stripe of four on: the gate before the first booking
-// and after the last one.
+// The calls that are expected for a batch that a worker books from this stripe of four on: the gate before the first
+// booking and after the last one.
 fn whole_batch(worker: u32, first: u32, batch: u64) -> [Event; 6]
     requires { first < 4 }
 {
@@ -253,7 +253,7 @@ fn whole_batch(worker: u32, first: u32, batch: u64) -> [Event; 6]
 // Numbers of workers, and how many stripes apart their rounds begin.
 const APART: &[(u32, u32)] = &[(1, 4), (2, 2), (3, 1), (4, 1)];
 
-// Asserts what was heard of a batch. The worker that begins it is the first thing that is heard.
+// Asserts the calls for a batch. The first of them is that of the worker that begins it.
 fn assert_whole<H: Abort + AllocGlobal>(
     rt: &H,
     events: &[Event],
@@ -273,7 +273,7 @@ fn assert_whole<H: Abort + AllocGlobal>(
 #[test]
 fn the_gate_is_called_around_all_bookings_of_a_batch(rt: HostRuntime) -> Result<(), Fail> {
     for (workers, apart) in APART {
-        let events = heard::<Tally, _>(&rt, *workers)?;
+        let events = heard_events::<Tally, _>(&rt, *workers)?;
         for batch in 0..16 {
             assert_whole(&rt, &events, *apart, batch)?;
         }
@@ -299,9 +299,9 @@ const FOR_NUMBERS: &[Event] = &[
 // A key is counted by one call, and no row is taken for numbers.
 #[test]
 fn a_table_is_asked_for_rows_or_for_its_greatest_count(rt: HostRuntime) -> Result<(), Fail> {
-    let events = events_of(rt.alloc(), &heard::<Tally, _>(&rt, 1)?, None)?;
+    let events = events_of(rt.alloc(), &heard_events::<Tally, _>(&rt, 1)?, None)?;
     assert_same(&rt, "a tally", &events.as_slice(), &FOR_A_TALLY);
-    let events = events_of(rt.alloc(), &heard::<Numbers, _>(&rt, 1)?, None)?;
+    let events = events_of(rt.alloc(), &heard_events::<Numbers, _>(&rt, 1)?, None)?;
     assert_same(&rt, "numbers", &events.as_slice(), &FOR_NUMBERS);
     Ok(())
 }

@@ -1,4 +1,4 @@
-//! Assertions that tell what they were about, proved once for all types.
+//! Assertions whose failures show what they were about, proved once for all types.
 use std::fmt::{Debug, Display};
 use std::process::Abort;
 

@@ -1,4 +1,4 @@
-//! Runs with several workers, stripes and batches, and what they answer.
+//! Runs with several workers, stripes and batches, and their results.
 ghost use Rattle.std.specs.Prelude.{◌≡◌, ◌<◌, ◌≤◌, ◌^◌, All, IfOk, length};
 ghost use Rattle.std.specs.FinMap.{empty};
 ghost use Rattle.kc_word.specs.Shared.{values};
@@ -27,7 +27,7 @@ use std::thread;
 use std::thread::Threads;
 use std::time::{Clock, Duration};
 
-// Words of k bases on one strand, in so many stripes, by a hash that leaves them as they are.
+// Words of k bases on one strand, in so many stripes, with a hash that leaves them unchanged.
 fn setup_of(k: u32, stripes: u32) -> Option<Setup> {
     let k = K::new(k)?;
     let hash = Hash::of_matrix(Matrix::identity(2 * k.get())).ok()?;
@@ -47,7 +47,7 @@ fn read_of(alloc: Global, bases: &[u8]) -> Result<SeqRead, Fail> {
     Ok(SeqRead::new(Vec::from_slice(alloc, bases)?, None).ok_or("no read")?)
 }
 
-// The batches of one read, of so many positions each.
+// The batches of one read, with so many positions each.
 pub(crate) fn batches_of(
     alloc: Global,
     setup: &Setup,
@@ -57,7 +57,7 @@ pub(crate) fn batches_of(
     ensures few { IfOk result (λ batches. length batches.items ≤ 2 ^ 40) }
     ensures small { IfOk result (λ batches. position_sum setup.now.rule.k (values batches.items) ≤ 2 ^ 62) }
 {
-    // for the proof: what is known of the positions
+    // for the proof: facts about the positions
     cutting_laws::cutting_positions();
     cutting_laws::positions_within_bytes();
     cutting_laws::cleaned_length();
@@ -74,7 +74,7 @@ pub(crate) fn batches_of(
     Ok(batches)
 }
 
-// The batches of a read, of so many positions each, and so many workers.
+// The batches of a read, with so many positions each, and the number of workers.
 #[derive(Drop)]
 pub(crate) struct Case<'a> {
     pub(crate) bases: &'a [u8],
@@ -82,7 +82,7 @@ pub(crate) struct Case<'a> {
     pub(crate) workers: u32,
 }
 
-// What a run over these tables answers.
+// What a run over these tables returns.
 pub(crate) fn run_over<
     S: Summary,
     H: Threads + Wait + Sync,
@@ -106,7 +106,7 @@ pub(crate) fn run_over<
     Ok(run(rt, alloc, &batches, setup, tables, case.workers, gate))
 }
 
-// What a run over tables that are never full answers.
+// What a run over tables that are never full returns.
 fn run_plainly<H: Threads + Wait + Sync + AllocGlobal, G: Gate + Sync>(
     rt: &H,
     setup: &Setup,
@@ -118,7 +118,7 @@ fn run_plainly<H: Threads + Wait + Sync + AllocGlobal, G: Gate + Sync>(
 }
 
 // The tally of a run over tables that are never full.
-fn counted<H: Threads + Wait + Sync + AllocGlobal, G: Gate + Sync>(
+fn tally_of_run<H: Threads + Wait + Sync + AllocGlobal, G: Gate + Sync>(
     rt: &H,
     setup: &Setup,
     case: &Case<'_>,
@@ -139,7 +139,7 @@ fn assert_rows<H: Abort>(rt: &H, tally: &Tally, rows: &[Row]) {
     assert_same(rt, "no row", &left.next(), &None);
 }
 
-// Asserts that a run over tables that are never full counts these rows and no others, of so many words in all.
+// Asserts that a run over tables that are never full counts these rows and no others, with this total.
 fn assert_counted<H: Threads + Wait + Abort + Sync + AllocGlobal, G: Gate + Sync>(
     rt: &H,
     setup: &Setup,
@@ -148,7 +148,7 @@ fn assert_counted<H: Threads + Wait + Abort + Sync + AllocGlobal, G: Gate + Sync
     rows: &[Row],
     total: u64,
 ) -> Result<(), Fail> {
-    let tally = counted(rt, setup, case, gate)?;
+    let tally = tally_of_run(rt, setup, case, gate)?;
     assert_rows(rt, &tally, rows);
     assert_same(rt, "in all", &tally.total(), &total);
     Ok(())
@@ -157,7 +157,7 @@ fn assert_counted<H: Threads + Wait + Abort + Sync + AllocGlobal, G: Gate + Sync
 // The one word of ten bases A.
 const EIGHT: &[Row] = &[Row { word: 0, count: 8 }];
 
-// Ten bases A in batches of so many positions, by so many workers, and in a number of stripes that both decide.
+// Ten bases A in batches of so many positions, with so many workers, and in a number of stripes that depends on both.
 fn count_ten<H: Threads + Wait + Abort + Sync + AllocGlobal>(
     rt: &H,
     size: u32,
@@ -224,7 +224,7 @@ const SIZES: &[u64] = &[1, 7, 100, 65_536];
 
 const WORKERS: &[u32] = &[1, 2, 8];
 
-// Counts these bases in batches of so many positions, by each number of workers.
+// Counts these bases in batches of so many positions, with each number of workers.
 fn count_with_workers<H: Threads + Wait + Abort + Sync + AllocGlobal>(
     rt: &H,
     setup: &Setup,
@@ -238,7 +238,7 @@ fn count_with_workers<H: Threads + Wait + Abort + Sync + AllocGlobal>(
             size,
             workers: *workers,
         };
-        let tally = counted(rt, setup, &case, &NoGate)?;
+        let tally = tally_of_run(rt, setup, &case, &NoGate)?;
         assert_rows(rt, &tally, want);
     }
     Ok(())
@@ -259,7 +259,7 @@ fn random_bases_are_counted_as_by_hand(rt: HostRuntime) -> Result<(), Fail> {
 }
 
 // Tables for this many keys, one for each stripe, which refuse the next one.
-fn refusing(
+fn refusing_tables(
     alloc: Global,
     setup: &Setup,
     keys: u64,
@@ -276,7 +276,7 @@ fn refusing(
     Ok(tables)
 }
 
-// What a run answers over tables for this many keys each, which refuse the next one.
+// What a run returns over tables for this many keys each, which refuse the next one.
 fn run_refusing<H: Threads + Wait + Sync + AllocGlobal, G: Gate + Sync>(
     rt: &H,
     setup: &Setup,
@@ -285,11 +285,11 @@ fn run_refusing<H: Threads + Wait + Sync + AllocGlobal, G: Gate + Sync>(
     case: &Case<'_>,
     gate: &G,
 ) -> Result<Result<Tally, RunFault>, Fail> {
-    let tables = refusing(rt.alloc(), setup, keys, refusal)?;
+    let tables = refusing_tables(rt.alloc(), setup, keys, refusal)?;
     run_over(rt, rt.alloc(), setup, tables, case, gate)
 }
 
-// Bases whose first key is refused, why, and what is answered: AAA falls in stripe 0, and AAC in stripe 1.
+// Bases whose first key is refused, why, and what is returned: AAA is in stripe 0, and AAC in stripe 1.
 const REFUSALS: &[(&[u8], TableFault, RunFault)] = &[
     (b"AAA", TableFault::Full, RunFault::Full(0)),
     (b"AAC", TableFault::Full, RunFault::Full(1)),
@@ -298,7 +298,7 @@ const REFUSALS: &[(&[u8], TableFault, RunFault)] = &[
 ];
 
 // The fault of a run over two stripes whose tables refuse the first key.
-fn refused<H: Threads + Wait + Sync + AllocGlobal>(
+fn fault_of_run<H: Threads + Wait + Sync + AllocGlobal>(
     rt: &H,
     bases: &[u8],
     refusal: TableFault,
@@ -320,15 +320,15 @@ fn refused<H: Threads + Wait + Sync + AllocGlobal>(
 fn a_refused_key_ends_the_run(rt: HostRuntime) -> Result<(), Fail> {
     for (bases, refusal, want) in REFUSALS {
         for workers in 1..=2 {
-            let fault = refused(&rt, *bases, *refusal, workers)?;
+            let fault = fault_of_run(&rt, *bases, *refusal, workers)?;
             assert_same(&rt, workers, &fault, want);
         }
     }
     Ok(())
 }
 
-// So many words of eight bases with an N behind each: a different four bases, and then AACC.
-fn crowded(alloc: Global, words: u64) -> Result<Vec<u8>, AllocError> {
+// So many words of eight bases with an N after each: four different bases, and then AACC.
+fn crowded_bases(alloc: Global, words: u64) -> Result<Vec<u8>, AllocError> {
     let mut bases = Vec::new(alloc);
     for word in 0..words {
         bases.push(base_at(word, 6))?;
@@ -340,7 +340,7 @@ fn crowded(alloc: Global, words: u64) -> Result<Vec<u8>, AllocError> {
     Ok(bases)
 }
 
-// The base that two bits of a word stand for, those from this one on.
+// The base of two bits of a word, those from this one on.
 pub(crate) fn base_at(word: u64, shift: u32) -> u8
     requires { shift < 64 }
 {
@@ -352,7 +352,7 @@ pub(crate) fn base_at(word: u64, shift: u32) -> u8
     }
 }
 
-// A table of 2^8 slots at most, for each stripe, where the keys have 16 bits.
+// A table of 2^8 slots at most, for each stripe, if the keys have 16 bits.
 fn small_tables(alloc: Global, setup: &Setup) -> Result<Vec<QuotientTable>, Fail>
     ensures one_each { IfOk result (λ tables. length tables.items ≡ stripe_count setup.now) }
     ensures tables { IfOk result (λ tables.
@@ -369,13 +369,13 @@ fn small_tables(alloc: Global, setup: &Setup) -> Result<Vec<QuotientTable>, Fail
     Ok(tables)
 }
 
-// What a run answers over one small table and so many words of one place.
+// The result of a run over one small table and so many words with one place.
 fn count_crowded<H: Threads + Wait + Sync + AllocGlobal>(
     rt: &H,
     words: u64,
 ) -> Result<Result<Tally, RunFault>, Fail> {
     let setup = made_setup(8, 1)?;
-    let bases = crowded(rt.alloc(), words)?;
+    let bases = crowded_bases(rt.alloc(), words)?;
     let case = Case {
         bases: &bases,
         size: 9,
@@ -516,7 +516,7 @@ impl Gate for Told {
     }
 }
 
-// Counts eight batches by so many workers. One worker has rounds of two.
+// Counts eight batches with this many workers. One worker has rounds of two.
 fn tell_of_eight<H: Threads + Wait + Sync + AllocGlobal>(
     rt: &H,
     workers: u32,
@@ -528,7 +528,7 @@ fn tell_of_eight<H: Threads + Wait + Sync + AllocGlobal>(
         size: 1,
         workers,
     };
-    counted(rt, &setup, &case, gate)?;
+    tally_of_run(rt, &setup, &case, gate)?;
     Ok(())
 }
 
@@ -542,8 +542,8 @@ fn the_gate_is_told_of_each_batch_before_and_after(rt: HostRuntime) -> Result<()
     Ok(())
 }
 
-// Bases of one batch of two words, over two stripes whose tables take one key each, and how often the gate is told
-// after it: AAA and AAC fall in the two stripes, AAG and AGA in the first one, AAC and ACC in the second one.
+// Bases of one batch of two words, over two stripes whose tables take one key each, and how often the gate is called
+// after it: AAA and AAC are in the two stripes, AAG and AGA in the first one, AAC and ACC in the second one.
 const ONE_KEY_EACH: &[(&[u8], u64)] = &[(b"AAAC", 1), (b"AAGA", 0), (b"AACC", 0)];
 
 // Counts one batch of these bases over two stripes whose tables take one key each.
@@ -564,8 +564,8 @@ fn tell_of_one<H: Threads + Wait + Sync + AllocGlobal>(
     }
 }
 
-// A batch that is refused was told before it, and not after it: so the gate is told before the first booking of a
-// batch, and after the last.
+// For a batch that is refused the gate was called before it, and not after it: so the gate is called before the first
+// booking of a batch, and after the last.
 #[test]
 fn the_gate_is_told_of_a_refused_batch_only_before(rt: HostRuntime) -> Result<(), Fail> {
     for (bases, after) in ONE_KEY_EACH {
@@ -602,7 +602,7 @@ impl Gate for Begun {
 // Eighteen bases of sixteen words.
 const SIXTEEN: &[u8] = b"AAAAAAAAAAAAAAAAAA";
 
-// The most batches that one of so many workers books in a round, of sixteen batches.
+// The most batches that one of so many workers books in a round, out of sixteen batches.
 fn longest_round<H: Threads + Wait + Sync + AllocGlobal>(
     rt: &H,
     setup: &Setup,
@@ -621,15 +621,15 @@ fn longest_round<H: Threads + Wait + Sync + AllocGlobal>(
         size: 1,
         workers,
     };
-    counted(rt, setup, &case, &gate)?;
+    tally_of_run(rt, setup, &case, &gate)?;
     Ok(gate.most.load(Ordering::SeqCst))
 }
 
 // Numbers of workers, and how many of sixteen batches make a round of theirs.
 const ROUNDS: &[(u32, u64)] = &[(1, 4), (2, 2), (3, 1), (64, 1)];
 
-// A worker tells of all batches of a round before it books them. Of two workers one always has a whole round, since
-// there are more batches than both could have begun one of.
+// A worker calls the gate for all batches of a round before it books them. One of two workers always has a whole round,
+// since there are more batches than each could have begun one of.
 #[test]
 fn a_round_leaves_each_worker_four(rt: HostRuntime) -> Result<(), Fail> {
     let setup = made_setup(3, 1)?;
@@ -642,7 +642,7 @@ fn a_round_leaves_each_worker_four(rt: HostRuntime) -> Result<(), Fail> {
     Ok(())
 }
 
-// Run with each growth refused in turn, by `make memory`: no other fault is answered, and no other tally.
+// Run with each growth refused in turn, by `make memory`: no other fault is returned, and no other tally.
 #[test]
 fn a_refused_growth_gives_no_tally(rt: HostRuntime) -> Result<(), Fail> {
     let setup = made_setup(3, 4)?;

@@ -27,7 +27,7 @@ writes_err old new text (Err fault) w = w
 module _ (selector : PairsSelector) (f g : Pair → List ℕ) (these : List Pair) (this : Pair) (a b c : Sides Written)
     (blocks : Sides (List ℕ))
     (d : Drain a b (flat_map f (kept_pairs selector these)) (flat_map g (kept_pairs selector these)) blocks) where
-  -- one pair more was put behind the blocks, where it is kept
+  -- one more pair was appended to the blocks, if it is kept
   pub apart_more : (left : Sides (List ℕ))
       → Drain b c (blocks.first ++ text_where_kept selector f this) (blocks.second ++ text_where_kept selector g this) left
       → Drain a c (flat_map f (kept_pairs selector (these ++ this ∷ [])))

@@ -127,7 +127,7 @@ pub runs-early : (walking : CountWalking) → walking.taken + 1 < walking.rule.k
 unfolding runs_left
 runs-early walking early = ap (λ counts. runs_behind walking.runs counts) (counts-early walking early)
 
--- a count more
+-- one more count
 pub runs-step : (walking : CountWalking) (count : Option ℕ) (ended : List CountRun) (runs : RunWalking)
     → walking.taken < length walking.read.bases → walking.rule.k ≤ walking.taken + 1
     → count ≡ count_at walking.tally walking.rule walking.read (walking.taken + 1 - walking.rule.k)
@@ -150,7 +150,7 @@ pub runs-end : (walking : CountWalking) → length walking.read.bases ≤ walkin
 unfolding runs_left
 runs-end walking done = ap (λ counts. runs_behind walking.runs counts) (counts-end walking done)
 
--- where no run is open, none is left
+-- if no run is open, none is left
 pub runs-none : (runs : RunWalking) → runs.last ≡ None → runs_behind runs [] ≡ []
 unfolding runs_with runs_from
 runs-none runs none = ap (λ last. runs_with last runs.at []) none

@@ -87,7 +87,7 @@ counts_few tally rule some reads bases few =
       solid = omega (arith, bases, words, solid);
     }
 
--- at the end as many bytes came as were used or stand there unused
+-- at the end as many bytes came as were used or are unused
 pub taken_same : (start now : Seen) (limit : ℕ) (records : List Record) (stand : Stand)
     → HasGivenRecords start now limit records stand → stand.ended ≡ true → (gives : GivesRecords start now limit records)
     → stand.used + length stand.unread.bytes ≡ length gives.0

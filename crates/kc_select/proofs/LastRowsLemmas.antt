@@ -21,7 +21,7 @@ last-trans all rows rest last then = last-behind all rows then.0 rest last then.
 tail-rises : (row : Row) (rows : List Row) → Rise (row ∷ rows) → Rise rows
 tail-rises row rows rising = tail row.word (map (λ (r : Row). r.word) rows) rising
 
--- a row behind the first has a greater word
+-- a row after the first has a greater word
 later : (first row : Row) (before rest : List Row) → Rise (first ∷ before ++ row ∷ rest) → first.word < row.word
 later first row before rest rising = by before (first_least first (before ++ row ∷ rest) rising)
   where
@@ -68,7 +68,7 @@ shown all rows rest row word last is rising same =
     sym (shown-behind row last.0 rest (subst Rise (sym whole) rising))
     ∙ ap (λ rs. count_of rs row.word) whole ∙ ap (count_of all) same
 
--- the rows behind one with a lesser word have the same count as all
+-- the rows after one with a lesser word have the same count as all
 pub passed : (all rows rest : List Row) (row : Row) (word : ℕ) → AreLast all rows → rows ≡ row ∷ rest → Rise all
     → row.word < word → count_of rest word ≡ count_of all word
 passed all rows rest row word last is rising under =

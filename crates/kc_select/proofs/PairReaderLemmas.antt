@@ -33,7 +33,7 @@ pub first_given : {start now : Seen} {limit : ℕ} {records : List Record} {stan
     → HasGivenRecords start now limit records stand → GivesFirst start now limit records
 first_given {stand = stand} given = (stand, given)
 
--- the reads of a source meet no fault where it gave one more, or none
+-- the reads of a source meet no fault if it gave one more, or none
 pub none_met : (start now : Seen) (limit : ℕ) (records : List Record) (stand : Stand) (title : Line) (next : Option Read)
     → GivesRecord start now limit records stand title (Ok next) → MeetsNone start now limit records
 none_met start now limit records stand title (Some read) g = inl (record_of title read, (stand, g))

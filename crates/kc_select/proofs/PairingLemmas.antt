@@ -45,7 +45,7 @@ pairing_none task start stands Put counts first none put = record {
   put = put;
 }
 
--- at its end a source gave as many bytes as were used or stand there unused, and they are no more than it may give
+-- at its end a source gave as many bytes as were used or are unused, and at most as many as it may give
 within : {start now : Seen} {limit : ℕ} {records : List Record} {stand : Stand}
     → HasGivenRecords start now limit records stand → stand.used + length stand.unread.bytes ≤ limit
 within {stand = stand} given =
@@ -53,7 +53,7 @@ within {stand = stand} given =
     let room = given.given.taken.room in
     omega (arith, counted, room, length-append given.given.used stand.unread.bytes)
 
--- ---- one pair more
+-- ---- one more pair
 
 module _ {task : PairsTask} {old now : Sides Seen} {stands : Sides Stand} {Put : List Pair → Type 0}
     {counts : SelectionCounts} (p : IsPairing task old now stands Put counts) where
@@ -61,7 +61,7 @@ module _ {task : PairsTask} {old now : Sides Seen} {stands : Sides Stand} {Put :
   pub next_number : counts.reads / 2 + 1 ≡ length p.these + 1
   next_number = let counted = ap (λ (c : SelectionCounts). c.reads) p.counted in omega (arith, counted)
 
-  -- it was judged, and what is written of it was put behind the rest
+  -- it was judged, and what is written of it was appended to the rest
   pub pairing_more : (new : Sides Seen) (reader : PairReader) (Next : List Pair → Type 0) (reads : Sides Read)
       (judged : Sides SelectionCounts) (sum : SelectionCounts)
       → HaveGivenPairs old new task.limit (p.these ++ pair_of reader.titles reads ∷ []) reader.stands
@@ -135,7 +135,7 @@ module _ {task : PairsTask} {old now : Sides Seen} {stands : Sides Stand} {Put :
   fails_so new Was Began (Unpaired number) fails was = (p.these, (now, stands, p.given), fails, was)
   fails_so new Was Began Write fails was = absurd fails
 
-  -- there is no pair behind them
+  -- there is no pair after them
   pub pairing_fails : (new : Sides Seen) (Was Began : List Pair → Type 0) (fault : PairFault)
       (written : Result (Unit {0}) Failed) (answer : Result Selected PairFault)
       → PairingFails old new task.limit p.these fault → OnOk written (Was p.these) → OnErr written (Began p.these)
@@ -155,7 +155,7 @@ bytes_fit given limit = let first = within given.first in let second = within gi
 
 -- ---- what is written of the pairs to one sink
 
--- one pair more was put behind the block, where it is kept
+-- one more pair was appended to the block, if it is kept
 pub put_more : (selector : PairsSelector) (f : Pair → List ℕ) (these : List Pair) (this : Pair) (a b c : Written)
     (block left : List ℕ) → Drains a b (flat_map f (kept_pairs selector these)) block
     → Drains b c (block ++ text_where_kept selector f this) left

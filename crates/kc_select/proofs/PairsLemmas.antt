@@ -56,7 +56,7 @@ sum_more count these this =
     let both : Pair → ℕ = λ p. count p.first.read + count p.second.read in
     omega (arith, sum_by-append both these (this ∷ []), sum_by-cons both this [])
 
--- one pair more was judged, and what was found of its reads was added
+-- one more pair was judged, and what was found of its reads was added
 pub pairs_counted : (selector : PairsSelector) (these : List Pair) (this : Pair) (counts : SelectionCounts)
     (judged : Sides SelectionCounts) → counts ≡ counts_of_pairs selector these
     → judged ≡ each (λ read. counts_of_read selector.by (keeps_pair selector this.first.read this.second.read) read)

@@ -36,7 +36,7 @@ pub lines-cons : (name : List ℕ) (run : CountRun) (rest : List CountRun)
 unfolding run_lines
 lines-cons name run rest = refl
 
--- a line was put behind the block, where its run and others were to be put
+-- a line was appended to the block, if its run and others were to be put
 pub line-put : {old new : Written} {left : List ℕ} (block name : List ℕ) (run : CountRun) (runs rest : List CountRun)
     → runs ≡ run ∷ rest → Drains old new (block ++ run_line name run) left
     → Drains old new (block ++ run_lines name runs) (left ++ run_lines name rest)

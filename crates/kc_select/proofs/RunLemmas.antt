@@ -11,7 +11,7 @@ use Rattle.kc_select.specs.RunWalks.{runs_with}
 abbrev put_where : Bool → CountRun → CountRun → List CountRun → List CountRun
 put_where joined run next rest = cond joined (run_of run.start next.end run.count ∷ rest) (run ∷ next ∷ rest)
 
--- where a run is not continued by one, it is not by the first of this and others either
+-- if a run is not continued by one, it is not by the first of this and others either
 apart_where : (joined : Bool) (run one next : CountRun) (rest : List CountRun) → continues run one ≡ false
     → put_before run (put_where joined one next rest) ≡ run ∷ put_where joined one next rest
 unfolding put_before
@@ -25,7 +25,7 @@ unfolding put_before
 put-apart run one [] apart = ap (λ b. put_where b run one []) apart
 put-apart run one (next ∷ rest) apart = apart_where (continues one next) run one next rest apart
 
--- where a run is continued by one, they are one run before others
+-- if a run is continued by one, they are one run before others
 continues-same : (start at end count : ℕ) → continues (run_of start at count) (run_of at end count) ≡ true
 continues-same start at end count = and_from _ _ (eq-eqb at at refl) (eq-eqb count count refl)
 
@@ -56,7 +56,7 @@ put-before-later run p (None ∷ counts) later = put-before-later run (p + 1) co
 put-before-later run p (Some count ∷ counts) later =
     put-apart run (run_of p (p + 1) count) (runs_from (p + 1) counts) (and_left _ _ (ne_eqb run.end p (λ same. omega (arith, later, same))))
 
--- ---- one count more
+-- ---- one more count
 
 -- a position without a count ends the run before it
 pub gap-step : (last : Option CountRun) (at : ℕ) → IfSome last (λ run. run.end ≡ at) → (counts : List (Option ℕ))

@@ -35,8 +35,8 @@ selected_text_push tally rule (first ∷ records) this =
     ∙ sym (append_assoc (text_of_selected tally rule first) (selected_text tally rule records)
     (text_of_selected tally rule this))
 
--- These records came and were counted, and of the text of the selected ones the sink took a front, behind which the
--- block stands.
+-- These records came and were counted, and the sink took a prefix of the text of the selected ones, which the block
+-- follows.
 pub record IsSelecting (task : Task) (old now : Streams) (stand : Stand) (block : List ℕ) (counts : SelectionCounts)
     : Type 0 where
   pub records : List Record
@@ -59,7 +59,7 @@ selecting_none task start stand block counts first empty none = record {
       record { front = none.front; taken = none.taken; split = none.whole });
 }
 
--- ---- one record more, or the end
+-- ---- one more record, or the end
 
 module _ {task : Task} {old now : Streams} {stand : Stand} {block : List ℕ} {counts : SelectionCounts}
     (s : IsSelecting task old now stand block counts) where
@@ -67,7 +67,7 @@ module _ {task : Task} {old now : Streams} {stand : Stand} {block : List ℕ} {c
       ≡ selected_text task.tally task.rule s.records ++ text_of_selected task.tally task.rule this
   text_more this = selected_text_push task.tally task.rule s.records this
 
-  -- it was put behind the block, where it is selected
+  -- it was appended to the block, if it is selected
   pub selecting_more : (new : Streams) (next : Stand) (left : List ℕ) (title : List ℕ) (read : Read)
       (judged sum : SelectionCounts)
       → HasGivenRecords old.source new.source task.limit (s.records ++ record_of title read ∷ []) next
@@ -130,7 +130,7 @@ module _ {task : Task} {old now : Streams} {stand : Stand} {block : List ℕ} {c
     flushed = w.flushed;
   }
 
-  -- all records came, and what stood in the block is written
+  -- all records came, and the contents of the block are written
   pub selects_all : (new : Streams) (next : Stand) (bytes : ℕ)
       → HasGivenRecords old.source new.source task.limit s.records next → next.ended ≡ true
       → GivesRecords old.source new.source task.limit s.records
@@ -151,7 +151,7 @@ module _ {task : Task} {old now : Streams} {stand : Stand} {block : List ℕ} {c
   pub fails_last : (new : Streams) → HasBegun now.sink new.sink block → Selects task old new (Err Write)
   fails_last new h = (s.records, (now.source, stand, s.given), drains_begins s.drained h)
 
-  -- either of both is answered
+  -- either of both is returned
   pub selects_ended : (new : Streams) (next : Stand) (bytes : ℕ) (answer : Result Selected SelectFault)
       → HasGivenRecords old.source new.source task.limit s.records next → next.ended ≡ true
       → GivesRecords old.source new.source task.limit s.records
@@ -163,7 +163,7 @@ module _ {task : Task} {old now : Streams} {stand : Stand} {block : List ℕ} {c
   selects_ended new next bytes (Err met) given end gives all h told fault =
       subst (λ v. Selects task old new (Err v)) (sym fault) (fails_last new h)
 
-  -- the reads met a fault, and what stood in the block was to be written
+  -- the reads met a fault, and the contents of the block had to be written
   pub selects_before : (new : Streams) (next : Stand) (fault : FastxFault) (answer : SelectFault)
       → MeetsFault old.source new.source task.limit next fault
       → ComesBehind (reads_in s.records) next fault

@@ -27,7 +27,7 @@ tail x xs rising k h =
     let e : suc k + 1 ≡ suc (k + 1) = omega arith in
     subst (λ i. get_or xs k 0 < get_or (x ∷ xs) i 0) e (rising (suc k) (omega (arith, h)))
 
--- the first of rising words is the least
+-- the first of ascending words is the least
 pub first_least : (row : Row) (rows : List Row) → IsStrictlyIncreasing (map (λ (r : Row). r.word) (row ∷ rows))
     → All (λ r. row.word < r.word) rows
 first_least row [] rising = All-nil _
@@ -42,7 +42,7 @@ rising-cons x xs less rising (suc k) h =
     let e : suc (k + 1) ≡ suc k + 1 = omega arith in
     subst (λ i. get_or xs k 0 < get_or (x ∷ xs) i 0) e (rising k (omega (arith, h)))
 
--- what holds of each word holds of each of these
+-- what holds for each word holds for each of these
 where_each : (P : ℕ → Type 0) (p : ℕ → Bool) (rows : List Row) → All (λ row. P row.word) rows
     → All P (words_where p rows)
 where_each P p rows each =
@@ -82,7 +82,7 @@ not_later : (n : ℕ) (rest : List ℕ) → All (λ w. n < w) rest → list_any 
 not_later n rest later =
     list_any_none (eqb n) rest (λ k d h. ne_eqb n (get_or rest k d) (λ e. let more = later k d h in omega (arith, more, e)))
 
--- a word is in the list where its count has the property, if 0 has it not
+-- a word is in the list if its count has the property, if 0 has it not
 where_holds : (p : ℕ → Bool) (rows : List Row) → p 0 ≡ false → IsStrictlyIncreasing (map (λ (r : Row). r.word) rows)
     → (n : ℕ) → list_any (eqb n) (words_where p rows) ≡ p (count_of rows n)
 where_holds p [] none rising n = sym none

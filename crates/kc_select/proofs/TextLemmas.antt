@@ -1,10 +1,10 @@
--- Texts that are put behind a block, one after another.
+-- Texts that are appended to a block, one after another.
 use Rattle.std.proofs.Common.{ℕ, List, [], ◌++◌, sym, ap, ◌∙◌, subst, append_assoc, append-nil}
 use Rattle.std.specs.Prelude.{Result, Ok, Err, OnOk, OnErr}
 use Rattle.kc_io.specs.Sinks.{Written, HasTaken, HasWritten, HasBegun, HandsOver, Writes, Drains}
 use Rattle.kc_io.proofs.SinksLemmas.{begin, taken_both, began_front}
 
--- more stands behind the block
+-- more follows the block
 pub drains_more : {old new : Written} {block left : List ℕ} → Drains old new block left → (more : List ℕ)
     → Drains old new (block ++ more) (left ++ more)
 drains_more {left = left} d more = record {
@@ -18,7 +18,7 @@ pub begins_more : {old new : Written} {block : List ℕ} → HasBegun old new bl
 begins_more {old = old} {new = new} {block = block} b more =
     began_front old old new (block ++ more) block more (begin old (block ++ more)) b
 
--- one text and then another was put behind the block
+-- one text and then another was appended to the block
 pub drains_both : {a b c : Written} {block mid left : List ℕ} → Drains a b block mid → Drains b c mid left
     → Drains a c block left
 drains_both {a = a} {b = b} {c = c} {left = left} d e = record {
@@ -70,7 +70,7 @@ pub handed_err : {A E : Type 0} (old new : Written) (answer : Result A E) (text 
 handed_err old new (Ok done) text h = tt
 handed_err old new (Err fault) text h = h
 
--- a text was put behind a block, which is written, or the writer fails then
+-- a text was appended to a block, which is written, or the writer fails then
 pub drains_written : {a b c : Written} {text block : List ℕ} → Drains a b text block → HasWritten b c block
     → HasWritten a c text
 drains_written {a = a} {b = b} {c = c} {block = block} d w = record {

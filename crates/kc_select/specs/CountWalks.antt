@@ -20,12 +20,12 @@ pub record CountWalking : Type 0 where
   pub taken : ℕ
   pub runs : RunWalking
 
--- the counts at the positions whose words were not taken yet
+-- the counts at the positions with words that were not taken yet
 unfoldable pub counts_left : CountWalking → List (Option ℕ)
 counts_left walking =
     drop (position_count walking.rule.k walking.taken) (counts_along walking.tally walking.rule walking.read)
 
--- the runs that were not complete yet
+-- the runs that are not complete yet
 unfoldable pub runs_left : CountWalking → List CountRun
 runs_left walking = runs_behind walking.runs (counts_left walking)
 

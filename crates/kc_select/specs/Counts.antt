@@ -1,4 +1,4 @@
--- What is counted of the reads that a selection judges.
+-- The numbers that a selection counts.
 -- Source: this project's own.
 use Rattle.std.specs.Prelude.{◌+◌, List, length, count_by, sum_by}
 use Rattle.kc_fastx.specs.Reads.{Read}
@@ -6,7 +6,7 @@ use Rattle.kc_tally.specs.Tally.{TallySeen}
 use Rattle.kc_select.specs.declared.selection_counts.SelectionCounts.{SelectionCounts}
 use Rattle.kc_select.specs.Solid.{SelectionRule, words_for, solid_in, is_selected}
 
--- how many reads they are, how many of these are selected, how many words the reads have, and how many of these are
+-- how many reads there are, how many of them are selected, how many words the reads have, and how many of these are
 -- solid
 abbrev pub counts_of : TallySeen → SelectionRule → List Read → SelectionCounts
 counts_of tally rule reads = record {
@@ -16,11 +16,11 @@ counts_of tally rule reads = record {
   solid = sum_by (λ read. solid_in tally rule read) reads;
 }
 
--- nothing was counted yet
+-- before anything is counted
 abbrev pub no_counts : SelectionCounts
 no_counts = record { reads = 0; kept = 0; words = 0; solid = 0 }
 
--- the counts of some reads and of others together
+-- the sums of the counts of some reads and of others
 abbrev pub both_counts : SelectionCounts → SelectionCounts → SelectionCounts
 both_counts one other = record {
   reads = one.reads + other.reads;

@@ -3,6 +3,6 @@
 use Rattle.std.specs.Prelude.{◌≡◌, List, ◌++◌}
 use Rattle.kc_tally.specs.declared.row.Row.{Row}
 
--- these are the last of all rows, behind any number of them
+-- these are the last rows, after any number of others
 abbrev pub AreLast : List Row → List Row → Type 0
 AreLast all rows = (before : List Row) × (before ++ rows ≡ all)

@@ -1,4 +1,4 @@
--- A reader of pairs: two sources whose records are read in step.
+-- A reader of pairs: it reads the records of two sources in step.
 -- Source: this project's own.
 use Rattle.std.specs.Prelude.{◌≡◌, ℕ, ◌+◌, true, List, [], ◌∷◌, ◌++◌, length, Option, Some, None, Result, Ok, Err}
 use Rattle.std.specs.Prelude.{if◌then◌else◌}
@@ -15,13 +15,13 @@ use Rattle.kc_select.specs.declared.sides.Sides.{Sides}
 use Rattle.kc_select.specs.Pairs.{Pair, PairsSelector, pair_of, are_mates, keeps_pair}
 use Rattle.kc_select.specs.SelectingPairs.{HaveGivenPairs, GivePairs, PairingFails}
 
--- where the readers of both sides stand, and the titles of the pair that was given
+-- the states of the readers of both sides, and the titles of the pair that was given
 pub record PairReader : Type 0 where
   pub stands : Sides Stand
   pub titles : Sides Line
 
--- What the records with this number come to, where a source that is at its end has none: a pair, or nothing at both
--- ends, or one has no mate.
+-- The result for the records with this number; a source at its end has none. A pair; or nothing, at both ends; or a
+-- record without a mate.
 abbrev pub pair_at : Sides Line → ℕ → Option Read → Option Read → Result (Option (Sides Read)) PairFault
 pair_at titles number (Some first) (Some second) =
     if are_mates titles.first titles.second then Ok (Some (record { first = first; second = second }))
@@ -30,12 +30,12 @@ pair_at titles number (Some first) None = Err (Unpaired number)
 pair_at titles number None (Some second) = Err (Unpaired number)
 pair_at titles number None None = Ok None
 
--- both sources told their ends
+-- both sources returned their ends
 abbrev pub AreEnded : Sides Stand → Type 0
 AreEnded stands = (stands.first.ended ≡ true) × (stands.second.ended ≡ true)
 
--- What a reader that had given these pairs answers: one pair more, with this number, or the end, where all bytes were
--- taken and those pairs are what they say, or why there is no pair.
+-- The result of a reader that had given these pairs: one more pair, with this number; or the end, if all bytes were
+-- taken and have exactly those pairs; or why there is no pair.
 abbrev pub GivesPair : Sides Seen → Sides Seen → ℕ → List Pair → PairReader → ℕ
     → Result (Option (Sides Read)) PairFault → Type 0
 GivesPair start now limit these reader number (Ok (Some reads)) =
@@ -45,17 +45,17 @@ GivesPair start now limit these reader number (Ok None) =
 GivesPair start now limit these reader number (Err fault) =
     number ≡ length these + 1 → PairingFails start now limit these fault
 
--- what is answered where the rest of the texts was written, or a writer failed
+-- what is returned if the rest of the texts was written, or if a writer failed
 abbrev pub answer_after : Result (Unit {0}) Failed → Result Selected PairFault → Result Selected PairFault
 answer_after (Ok done) answer = answer
 answer_after (Err failed) answer = Err Write
 
--- of two texts the sinks took fronts, and the rest is left
+-- the sinks took prefixes of two texts, and the rest is left
 abbrev pub Drain : Sides Written → Sides Written → List ℕ → List ℕ → Sides (List ℕ) → Type 0
 Drain from to first second left =
     Drains from.first to.first first left.first × Drains from.second to.second second left.second
 
--- what is written of a pair: nothing where it isn't kept
+-- what is written of a pair: nothing if it isn't kept
 abbrev pub text_where_kept : PairsSelector → (Pair → List ℕ) → Pair → List ℕ
 text_where_kept selector text this =
     if keeps_pair selector this.first.read this.second.read then text this else []

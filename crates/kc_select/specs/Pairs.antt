@@ -1,7 +1,7 @@
--- Pairs of reads: which titles are those of mates, which pairs are kept, and their text.
+-- Pairs of reads: which titles belong to mates, which pairs are kept, and their text.
 -- Source: the names that sequencers and archives write: `NAME/1` and `NAME/2`, or `NAME 1:..` and `NAME 2:..`
--- (Illumina), `NAME.1` and `NAME.2` (the Sequence Read Archive, where `NAME.N` with the number of the record stands in
--- both files). The pairs that are kept are this project's own.
+-- (Illumina), `NAME.1` and `NAME.2` (the Sequence Read Archive, where both files have `NAME.N`, with the number of the
+-- record). The pairs that are kept are this project's own.
 use Rattle.std.specs.Prelude.{◌≡◌, ℕ, Bool, true, ◌+◌, ◌*◌, ◌-◌, ◌&&◌, ◌||◌, if◌then◌else◌}
 use Rattle.std.specs.Prelude.{List, [], ◌∷◌, ◌++◌, length, take, drop, map, sum_by}
 use Rattle.std.specs.List.{All, filter, flat_map}
@@ -19,7 +19,7 @@ use Rattle.kc_select.specs.Texts.{text_of_kept}
 
 -- ---- the titles of mates
 
--- the marks behind which the number of a mate stands, and the two numbers
+-- the marks before the number of a mate, and the two numbers
 abbrev pub slash : ℕ
 slash = 47
 
@@ -32,41 +32,41 @@ one = 49
 abbrev pub two : ℕ
 two = 50
 
--- the last two bytes of the name are this mark and this number
+-- whether the last two bytes of the name are this mark and this number
 abbrev pub has_end : ℕ → ℕ → List ℕ → Bool
 has_end mark number name = bytes_eq (drop (length name - 2) name) (mark ∷ number ∷ [])
 
--- the name of the mate with this number, without `/` or `.` and the number at its end, where they stand there
+-- the name of the mate with this number, without `/` or `.` and the number if it ends with them
 abbrev pub bare_name : ℕ → List ℕ → List ℕ
 bare_name number name =
     if has_end slash number name || has_end dot number name then take (length name - 2) name else name
 
--- the name ends in `.1` or `.2`, which may be the number of the record
+-- whether the name ends in `.1` or `.2`, which may be the number of the record
 abbrev pub is_numbered : List ℕ → Bool
 is_numbered name = has_end dot one name || has_end dot two name
 
--- Two names are those of mates: they are the same without the number of each mate, or they are the same as they are,
--- with the number of a record.
+-- Two names are those of mates if they are equal without the number of each mate, or equal as they are, with the number
+-- of a record.
 abbrev pub are_names_of_mates : List ℕ → List ℕ → Bool
 are_names_of_mates first second =
     bytes_eq (bare_name one first) (bare_name two second) || (bytes_eq first second && is_numbered first)
 
--- the titles of two records are those of mates
+-- whether the titles of two records are those of mates
 abbrev pub are_mates : List ℕ → List ℕ → Bool
 are_mates first second = are_names_of_mates (name_of first) (name_of second)
 
 -- ---- pairs
 
--- two records, the first of one source and the second of another one
+-- two records, the first of one source and the second of another
 abbrev pub Pair : Type 0
 Pair = Sides Record
 
--- the records of these titles and these reads
+-- the records with these titles and these reads
 abbrev pub pair_of : Sides Line → Sides Read → Pair
 pair_of titles reads =
     record { first = record_of titles.first reads.first; second = record_of titles.second reads.second }
 
--- the same of each side
+-- the same function for each side
 abbrev pub each : {A B : Type 0} → (A → B) → Sides A → Sides B
 each f sides = record { first = f sides.first; second = f sides.second }
 
@@ -88,12 +88,12 @@ pub record PairsSelector : Type 0 where
   pub by : SelectorSeen
   pub asked : PairRule
 
--- of the two reads of a pair both are solid, or one at least, as is asked
+-- whether both reads of a pair are solid, or at least one of them, as the rule asks
 abbrev pub is_solid_pair : PairRule → Bool → Bool → Bool
 is_solid_pair asks.All first second = first && second
 is_solid_pair asks.Any first second = first || second
 
--- the pair is kept: it is solid, or it isn't, if the rule is inverted
+-- whether the pair is kept: it is solid, or is not if the rule is inverted
 abbrev pub keeps_pair : PairsSelector → Read → Read → Bool
 keeps_pair selector first second =
     let by = selector.by in
@@ -105,34 +105,34 @@ kept_pairs selector these = filter (λ p. keeps_pair selector p.first.read p.sec
 
 -- ---- what is written of them
 
--- the text of a record whose pair is kept
+-- the text of a record in a pair that is kept
 abbrev pub text_by : PairsSelector → Record → List ℕ
 text_by selector this = text_of_kept selector.by.tally selector.by.rule this
 
--- the text of both records of a pair, that of the first one in front
+-- the text of both records of a pair, the first one first
 abbrev pub text_of_both : PairsSelector → Pair → List ℕ
 text_of_both selector this = text_by selector this.first ++ text_by selector this.second
 
--- of each pair that is kept the text of its first record
+-- the texts of the first records of the kept pairs
 abbrev pub first_text : PairsSelector → List Pair → List ℕ
 first_text selector these = flat_map (λ p. text_by selector p.first) (kept_pairs selector these)
 
--- of each the text of its second record
+-- the texts of their second records
 abbrev pub second_text : PairsSelector → List Pair → List ℕ
 second_text selector these = flat_map (λ p. text_by selector p.second) (kept_pairs selector these)
 
--- of each the text of both
+-- the texts of both
 abbrev pub interleaved_text : PairsSelector → List Pair → List ℕ
 interleaved_text selector these = flat_map (λ p. text_of_both selector p) (kept_pairs selector these)
 
 -- ---- what is counted of them
 
--- what is counted of a read, of both reads of each pair together
+-- the sum of a number over both reads of all pairs
 abbrev pub sum_of_both : (Read → ℕ) → List Pair → ℕ
 sum_of_both count these = sum_by (λ p. count p.first.read + count p.second.read) these
 
--- how many reads the pairs have, how many of these are written, how many words the reads have, and how many of these
--- are solid
+-- how many reads the pairs have, how many of them are written, how many words the reads have, and how many of these are
+-- solid
 abbrev pub counts_of_pairs : PairsSelector → List Pair → SelectionCounts
 counts_of_pairs selector these = let by = selector.by in record {
   reads = 2 * length these;
@@ -141,7 +141,7 @@ counts_of_pairs selector these = let by = selector.by in record {
   solid = sum_of_both (λ read. solid_in by.tally by.rule read) these;
 }
 
--- what is counted of one read, which is kept or not
+-- the numbers of one read, which is kept or not
 abbrev pub counts_of_read : SelectorSeen → Bool → Read → SelectionCounts
 counts_of_read by kept read = record {
   reads = 1;

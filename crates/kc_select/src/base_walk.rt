@@ -9,8 +9,8 @@ use kc_kmer::Rule;
 use kc_word::{Rolled, usable_code};
 use std::marker::Model;
 
-// A place in a read whose words are taken. It is seen as a place in the piece of the read, in which N stands for the
-// bases that are not usable.
+// A place in a read whose words are taken. Its view is a place in the piece of the read, which has N for the bases that
+// are not usable.
 #[derive(Drop)]
 pub(crate) struct BaseWalk<'a> {
     read: &'a SeqRead,
@@ -53,7 +53,8 @@ impl<'a> BaseWalk<'a> {
         self.read.bases().len() <= self.at
     }
 
-    // Takes the next base, and answers the word that ends in it, if one does. Condition: not all bases were taken.
+    // Takes the next base, and returns the word that ends with it, if there is one. Condition: not all bases were
+    // taken.
     #[inline(always)]
     fn step(&mut self) -> Option<u64>
         requires { self.old.taken < length self.old.bytes }
@@ -66,7 +67,7 @@ impl<'a> BaseWalk<'a> {
         self.rolled.push(code as u64)
     }
 
-    // Takes bases up to the end of the next word, or all that are left where no word ends in them.
+    // Takes bases up to the end of the next word, or all that are left if no word ends in them.
     #[inline(always)]
     pub(crate) fn next_word(&mut self) -> Option<u64>
         ensures rule { self.new.rule ≡ self.old.rule }

@@ -71,8 +71,8 @@ impl<'a> CountWalk<'a> {
         self.read.bases().len() <= self.at
     }
 
-    // Takes the next base, and answers the run that ends before the word that it completes, if one does. Condition: not
-    // all bases were taken.
+    // Takes the next base, and returns the run that ends before the word that this base completes, if there is one.
+    // Condition: not all bases were taken.
     fn step(&mut self) -> Option<CountRun>
         requires { self.old.taken < length self.old.read.bases }
         ensures read { self.new.read ≡ self.old.read }
@@ -104,7 +104,7 @@ impl<'a> CountWalk<'a> {
     }
 }
 
-// The count of the word in the table, where there is a word. It is the next word of those whose places were looked up.
+// The count of the word in the table, if there is a word. It is the next word of those whose places were looked up.
 #[inline(always)]
 fn count_in(index: &RowIndex<'_>, places: &mut WordPlaces<'_>, word: Option<u64>) -> Option<u64>
     ensures { result ≡ option_map (λ word. count_of index.now.rows word) word }

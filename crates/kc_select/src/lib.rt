@@ -1,8 +1,8 @@
-//! Reads selected by their k-mers (words of length k) and a table of counts.
+//! Selecting reads by their k-mers (words of length k) and a table of counts.
 //!
-//! A word is solid where its count in the table is between two bounds, and a read is solid where at least a given share
-//! of its words is. A `Selector` has a table and the rule of a selection, a `Selection`: `is_solid` judges a read, and
-//! `is_selected` answers whether the selection keeps it. `select` writes the reads of a source that a selector keeps,
+//! A word is solid if its count in the table is between two bounds, and a read is solid if at least a given share of
+//! its words is. A `Selector` has a table and the rule of a selection, a `Selection`: `is_solid` judges a read, and
+//! `is_selected` returns whether the selection keeps it. `select` writes the reads of a source that a selector keeps,
 //! with their titles, and counts them.
 //!
 //! ```ignore

@@ -17,11 +17,11 @@ use kc_io::{Block, Failed, Sink, write_out};
 use std::alloc::Global;
 
 /// Writes the pairs of reads that the selection keeps as `select_into_one` does, but to two sinks: the reads of the
-/// first source to the first one, and their mates to the second one. Condition: the limit is at most 2^36.
+/// first source to the first sink, and their mates to the second. Condition: the limit is at most 2^36.
 ///
 /// # Errors
-/// Those of `select_into_one`. Where one writer failed, it took a beginning of its text, and the other one a front of
-/// its own.
+/// Those of `select_into_one`. If one writer failed, it took a beginning of its text, and the other one a prefix of its
+/// own.
 pub fn select_into_two<S: Source, T: Source, W: Sink>(
     alloc: Global,
     first: &mut S,
@@ -35,7 +35,7 @@ pub fn select_into_two<S: Source, T: Source, W: Sink>(
         (record { first = S.seen first.new; second = T.seen second.new })
         (each W.seen writers.old) (each W.seen writers.new) result }
 {
-    // for the proof: what is known of a length
+    // for the proof: facts about a length
     let _bases = selection.selector().k().get();
     let first_block = Block::new();
     let second_block = Block::new();
@@ -52,7 +52,7 @@ pub fn select_into_two<S: Source, T: Source, W: Sink>(
         match reading.next_pair(first, second, counts.reads / 2 + 1) {
             Ok(Some(reads)) => {
                 let judged = put_in_two(writers, &mut blocks, selection, &reading, &reads)?;
-                counts = counts.and(judged.first).and(judged.second);
+                counts = counts.plus(judged.first).plus(judged.second);
             }
             Ok(None) => {
                 let bytes = reading.byte_count();
@@ -64,7 +64,7 @@ pub fn select_into_two<S: Source, T: Source, W: Sink>(
     }
 }
 
-// Puts the texts of the pair behind the blocks, where the selection keeps it, and answers what is counted of its reads.
+// Appends the texts of the pair to the blocks, if the selection keeps it, and returns the numbers of its reads.
 fn put_in_two<W: Sink>(
     writers: &mut Sides<W>,
     blocks: &mut Sides<Block>,
@@ -92,7 +92,7 @@ fn put_in_two<W: Sink>(
     Ok(judged.counts)
 }
 
-// Puts the texts of both records of a pair that is kept behind the blocks.
+// Appends the texts of both records of a pair that is kept to the blocks.
 fn put_apart<W: Sink>(
     writers: &mut Sides<W>,
     blocks: &mut Sides<Block>,

@@ -13,7 +13,8 @@ pub enum PairFault {
     /// The reads of this side met this fault.
     #[error("{1}")]
     Reads(Side, FastxFault),
-    /// The records with this number, from 1, are no pair: their titles differ, or one source has no such record.
+    /// The records with this number, from 1, are no pair: their titles are not those of mates, or one source has no
+    /// such record.
     #[error("reads are no pair, record {0}")]
     Unpaired(u64),
     /// A writer failed or took no byte.

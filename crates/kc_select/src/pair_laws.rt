@@ -2,7 +2,7 @@
 ghost use Rattle.std.specs.Prelude.{◌≡◌, true, false, codes};
 ghost use Rattle.kc_select.specs.Pairs.{are_mates};
 
-/// Titles that are those of mates.
+/// Titles of mates.
 pub fn titles_of_mates()
     ensures numbers { are_mates (codes "a/1") (codes "a/2") ≡ true }
     ensures numbers_behind_dots { are_mates (codes "a.1") (codes "a.2") ≡ true }
@@ -14,7 +14,7 @@ pub fn titles_of_mates()
     ensures no_names { are_mates (codes "") (codes "") ≡ true }
 {}
 
-/// Titles that are not.
+/// Titles of other records.
 pub fn titles_of_strangers()
     ensures other_names { are_mates (codes "a/1") (codes "b/2") ≡ false }
     ensures one_file_twice { are_mates (codes "a/1") (codes "a/1") ≡ false }

@@ -1,4 +1,4 @@
-//! Whether two titles are those of mates.
+//! Whether two titles belong to mates.
 ghost use Rattle.std.specs.Prelude.{◌≡◌};
 ghost use Rattle.kc_select.specs.Pairs.{has_end, bare_name, is_numbered, are_mates};
 

@@ -1,4 +1,4 @@
-//! The records of two sources, in step.
+//! Reading the records of two sources in step.
 ghost use Rattle.std.specs.Prelude.{◌≡◌, ◌≤◌, ◌<◌, ◌+◌, ◌^◌, ℕ, List, None, IfOk, IfSome, length};
 ghost use Rattle.kc_io.specs.Sources.{Seen};
 ghost use Rattle.kc_fastx.specs.Parsing.{most_bytes};
@@ -15,7 +15,7 @@ use kc_fastx::{Reading, SeqRead, Source};
 use std::alloc::{AllocError, Global};
 use std::marker::Model;
 
-// A reader of the records of two sources, which it leaves with its caller: the n-th of one with the n-th of the other.
+// A reader of the records of two sources, which it leaves with its caller: record n of one with record n of the other.
 // It has the titles of the pair that it gave.
 #[derive(Drop)]
 pub(crate) struct PairReading {
@@ -38,7 +38,7 @@ impl Model for PairReading {
 }
 
 impl PairReading {
-    // A reader that takes at most `limit` bytes of each source. Nothing was taken yet.
+    // A reader that takes at most `limit` bytes of each source. Nothing is taken yet.
     pub(crate) fn new(alloc: Global, limit: u64) -> Result<PairReading, AllocError>
         requires { limit ≤ most_bytes }
         ensures { IfOk result (λ reading.
@@ -62,14 +62,15 @@ impl PairReading {
         self.first_title.as_slice()
     }
 
-    // That of its mate.
+    // The title of its mate.
     pub(crate) fn second_title(&self) -> &[u8]
         ensures { result.now ≡ self.now.titles.second }
     {
         self.second_title.as_slice()
     }
 
-    // How many bytes were taken of both sources. Condition: neither reader keeps a fault, and they are less than 2^64.
+    // How many bytes were taken of both sources. Condition: neither reader keeps a fault, and there are fewer than
+    // 2^64.
     pub(crate) fn byte_count(&self) -> u64
         requires first { self.now.stands.first.failed ≡ None }
         requires second { self.now.stands.second.failed ≡ None }
@@ -81,7 +82,7 @@ impl PairReading {
         self.first.byte_count() + self.second.byte_count()
     }
 
-    // The next pair, which has this number from 1, or none where both sources are at their ends.
+    // The next pair, which has this number from 1, or none if both sources are at their ends.
     pub(crate) fn next_pair<S: Source, T: Source>(
         &mut self,
         first: &mut S,
@@ -113,7 +114,7 @@ impl PairReading {
     }
 }
 
-// The pair of the records with this number and these titles: of those that the sources have there.
+// The pair of the records with this number and these titles; a source at its end has none.
 fn pair_at(
     first_title: &[u8],
     second_title: &[u8],

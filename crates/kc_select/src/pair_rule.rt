@@ -7,12 +7,12 @@ ghost use Rattle.kc_select.specs.Pairs.{is_solid_pair};
 pub enum PairRule {
     /// Both reads.
     All,
-    /// One read at least.
+    /// At least one read.
     Any,
 }
 
 impl PairRule {
-    // Whether that is so of a pair, of whose reads this is known.
+    // Whether a pair meets the rule, given which of its reads are solid.
     pub(crate) fn is_met(self, first: bool, second: bool) -> bool
         ensures { result ≡ is_solid_pair self first second }
     {

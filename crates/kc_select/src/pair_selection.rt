@@ -9,8 +9,8 @@ use crate::sides::Sides;
 use kc_fastx::SeqRead;
 use std::marker::Model;
 
-/// How pairs of reads are selected: by which selector, how many reads of a pair it has to find solid, and how many
-/// bytes each of the two sources may give.
+/// How pairs of reads are selected: the selector, how many reads of a pair have to be solid, and how many bytes each of
+/// the two sources may give.
 #[derive(Drop)]
 pub struct PairSelection<'a, 't> {
     selector: &'a Selector<'t>,
@@ -29,7 +29,7 @@ impl<'a, 't> Model for PairSelection<'a, 't> {
     } };
 }
 
-// What was found of a pair: whether it is kept, and what is counted of its reads.
+// The judgement of a pair: whether it is kept, and the numbers of its reads.
 #[derive(Drop)]
 pub(crate) struct Judged {
     pub(crate) is_kept: bool,
@@ -37,8 +37,8 @@ pub(crate) struct Judged {
 }
 
 impl<'a, 't> PairSelection<'a, 't> {
-    /// The selection by this selector of the pairs of which both reads are solid, or any; of each source at most
-    /// `limit` bytes are taken. An inverted selector keeps the pairs of which that is not so.
+    /// The selection of the pairs with both reads solid, or any of them, by this selector; at most `limit` bytes of
+    /// each source are taken. An inverted selector keeps all other pairs.
     pub fn new(selector: &'a Selector<'t>, asked: PairRule, limit: u64) -> PairSelection<'a, 't>
         ensures { result ≡ record { selector = record { by = selector.now; asked = asked }; limit = limit } }
     {
@@ -63,7 +63,7 @@ impl<'a, 't> PairSelection<'a, 't> {
         self.limit
     }
 
-    // Whether the pair of these reads is kept, and what is counted of both.
+    // Whether the pair of these reads is kept, and the numbers of both.
     pub(crate) fn judge(&self, reads: &Sides<SeqRead>) -> Judged
         ensures kept { result.is_kept ≡ keeps_pair self.now.selector reads.now.first reads.now.second }
         ensures counts { result.counts

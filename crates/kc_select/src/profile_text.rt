@@ -10,10 +10,10 @@ use crate::run_walk::CountRun;
 use kc_io::{Block, Failed, NUMBER_SIZE, Sink};
 use memchr::memchr2;
 
-// The most bytes of a run's line behind its name: three numbers, three tabs and the end of the line.
+// The most bytes of a run's line after its name: three numbers, three tabs and the end of the line.
 const NUMBERS_SIZE: usize = 3 * NUMBER_SIZE + 4;
 
-// Puts the lines of a record behind the block: of each run of words with equal counts in the table.
+// Appends the lines of a record to the block: one for each run of words with equal counts in the table.
 pub(crate) fn put_profile<W: Sink>(
     writer: &mut W,
     block: &mut Block,
@@ -42,7 +42,7 @@ pub(crate) fn name_of(title: &[u8]) -> &[u8]
     }
 }
 
-// Puts the line of a run behind the block.
+// Appends the line of a run to the block.
 fn put_run<W: Sink>(
     writer: &mut W,
     block: &mut Block,

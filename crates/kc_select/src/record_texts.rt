@@ -1,4 +1,4 @@
-//! The text of a record, by way of a block.
+//! The text of a record, written by way of a block.
 ghost use Rattle.std.specs.Prelude.{◌≡◌, ◌++◌, OnOk, OnErr};
 ghost use Rattle.kc_io.specs.Sinks.{HasBegun, Drains};
 ghost use Rattle.kc_fastx.specs.Titles.{record_of};
@@ -7,7 +7,7 @@ ghost use Rattle.kc_select.specs.Texts.{line_of, fasta_text, fastq_text, record_
 use kc_fastx::SeqRead;
 use kc_io::{BLOCK_SIZE, Block, Failed, Sink, write_all};
 
-// Puts the text of a record behind the block. A block without room goes to the writer first.
+// Appends the text of a record to the block. A block without room goes to the writer first.
 pub(crate) fn put_record<W: Sink>(
     writer: &mut W,
     block: &mut Block,
@@ -25,7 +25,7 @@ pub(crate) fn put_record<W: Sink>(
     }
 }
 
-// Puts a record of FASTA behind the block: a line with its title, and one with its bases.
+// Appends a record of FASTA to the block: a line with its title, and one with its bases.
 fn put_fasta<W: Sink>(
     writer: &mut W,
     block: &mut Block,
@@ -41,7 +41,7 @@ fn put_fasta<W: Sink>(
     put_line(writer, block, b"", bases)
 }
 
-// Puts a record of FASTQ behind the block, in four lines.
+// Appends a record of FASTQ to the block, in four lines.
 fn put_fastq<W: Sink>(
     writer: &mut W,
     block: &mut Block,
@@ -60,7 +60,7 @@ fn put_fastq<W: Sink>(
     put_line(writer, block, b"", quals)
 }
 
-// Puts a line and its end behind the block: the mark, and then the text.
+// Appends a line and its end to the block: the mark, and then the text.
 fn put_line<W: Sink>(
     writer: &mut W,
     block: &mut Block,
@@ -77,7 +77,7 @@ fn put_line<W: Sink>(
     put(writer, block, b"\n")
 }
 
-// Puts bytes behind the block, however many they are.
+// Appends bytes to the block, however many they are.
 pub(crate) fn put<W: Sink>(writer: &mut W, block: &mut Block, bytes: &[u8]) -> Result<(), Failed>
     ensures ok { OnOk result (Drains (W.seen writer.old) (W.seen writer.new) (block.old ++ bytes.now) block.new) }
     ensures err { OnErr result (HasBegun (W.seen writer.old) (W.seen writer.new) (block.old ++ bytes.now)) }

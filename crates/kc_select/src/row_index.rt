@@ -1,4 +1,4 @@
-//! An index of a table's rows, so that the count of a word is found among few of them.
+//! An index of a table's rows: with it, the count of a word is found among few of them.
 ghost use Rattle.std.specs.Prelude.{◌≡◌, ◌+◌, ◌/◌, ◌<◌, ◌≤◌, All, IfOk, IfSome, length, map};
 ghost use Rattle.std.specs.List.Sorted.{IsStrictlyIncreasing};
 ghost use Rattle.std.specs.Vec.{vec_capacity};
@@ -14,28 +14,28 @@ use std::marker::Model;
 /// How many words are looked up at a time.
 pub(crate) const BLOCK: usize = 32;
 
-// A walk over the rows is kept from one of so many places on.
+// A walk over the rows is kept for each multiple of this many places.
 const STRIDE: usize = 1024;
 
-// There is a start for so many rows, or for up to twice as many.
+// There is a start for this many rows, or for up to twice as many.
 const ROWS_A_START: usize = 8;
 
-// So many places lie between a place and the row that is looked at next.
+// The distances between a place and the row that is looked at next.
 const LEAPS: [usize; 2] = [8, 4];
 
-// So many rows are compared with a word before it is searched in all rows by halving.
-const MOST_STEPS: usize = 64;
+// This many rows are compared with a word before it is searched in all rows by halving.
+const MAX_STEPS: usize = 64;
 
-/// Where the words of each prefix begin among the rows of a table, which it is seen as. A prefix is so many high bits
-/// of a word that 8 to 16 rows have the same one, if the words lie evenly.
+/// Where the words of each prefix begin among the rows of a table; its view is the table. A prefix is so many high bits
+/// of a word that 8 to 16 rows have the same one, if the words are spread evenly.
 ///
-/// A row's place is its number, where the parts of the table have a multiple of 1,024 rows. A start takes 4 bytes and a
-/// walk 64, so the index takes at most a tenth of what the packed rows take. No answer rests on a place alone: the rows
-/// from there on show it, or it is searched in all of them.
+/// A row's place is its number, if the parts of the table have a multiple of 1,024 rows. A start takes 4 bytes and a
+/// walk 64, so the index takes at most a tenth of the memory of the packed rows. No result relies on a place alone: the
+/// rows from there on confirm it, or all of them are searched.
 #[derive(Drop)]
 pub(crate) struct RowIndex<'a> {
     tally: &'a Tally,
-    // how many low bits of a word are not of its prefix
+    // how many low bits of a word are outside its prefix
     shift: u32,
     // for each prefix the place of the last row with a lesser one
     starts: Vec<u32>,
@@ -90,7 +90,7 @@ impl<'a> RowIndex<'a> {
         self.tally
     }
 
-    /// The count of a word, 0 where it has no row. The search begins at a place: at best a little before the word's.
+    /// The count of a word, 0 if it has no row. The search begins at a place: at best a little before the word's.
     #[inline(always)]
     pub(crate) fn count_of(&self, word: u64, place: usize) -> u64
         ensures { result ≡ count_of self.now.rows word }
@@ -101,15 +101,15 @@ impl<'a> RowIndex<'a> {
         }
     }
 
-    // The count of the word, where one of few rows from the place on shows it: the row has the word, or is the first
-    // with a greater one, and not the first of these.
+    // The count of the word, if a few rows from the place on determine it: a row has the word, or is the first with a
+    // greater one, and not the first of these rows.
     #[inline(always)]
     fn count_near(&self, word: u64, place: usize) -> Option<u64>
         ensures { IfSome result (λ count. count ≡ count_of self.now.rows word) }
     {
         let mut rows = self.rows_from(place);
         let mut is_behind = false;
-        for _ in 0..MOST_STEPS {
+        for _ in 0..MAX_STEPS {
             let Some(row) = rows.next() else {
                 return None;
             };
@@ -133,7 +133,7 @@ impl<'a> RowIndex<'a> {
         rows_behind(self.walk_to(place), place % STRIDE)
     }
 
-    // The rows from the last kept walk on that is not behind the place.
+    // The rows from the last kept walk on that is not after the place.
     #[inline(always)]
     fn walk_to(&self, place: usize) -> Rows<'a>
         ensures last { AreLast self.now.rows result }
@@ -142,13 +142,13 @@ impl<'a> RowIndex<'a> {
         let all = self.tally.rows();
         let number = place / STRIDE;
         if number < self.walks.len() {
-            return self.walks[number].ahead();
+            return self.walks[number].second_walk();
         }
         all
     }
 
-    /// For each of the words a place to search it from. No reading of a start or of a row waits for another one of its
-    /// kind, so that the memory answers several at once.
+    /// For each of the words, a place from which to search it. No read of a start or of a row waits for another of its
+    /// kind, so the memory serves several at once.
     pub(crate) fn places(&self, words: &[u64; BLOCK]) -> [usize; BLOCK] {
         let mut places = [0; BLOCK];
         for i in 0..BLOCK {
@@ -167,9 +167,9 @@ impl<'a> RowIndex<'a> {
         self.starts.get(prefix).copied().unwrap_or(0) as usize
     }
 
-    // Moves each place on by a leap where the row there is less than the word, too. Each loop waits for memory once a
-    // word and is short, so that the memory answers several words at once. Whether a row is less can't be predicted, so
-    // how far a place moves is computed.
+    // Moves each place on by a leap if the row there is less than the word, too. Each loop waits for memory once a word
+    // and is short, so the memory serves several words at once. Whether a row is less can't be predicted, so how far a
+    // place moves is computed.
     #[inline(always)]
     fn leap(&self, words: &[u64; BLOCK], places: &mut [usize; BLOCK], leap: usize) {
         let mut ahead: [Rows<'a>; BLOCK] = from_fn(|i| self.walk_to(places[i].saturating_add(
@@ -183,12 +183,12 @@ impl<'a> RowIndex<'a> {
     }
 }
 
-// Passes the rows of each walk that are in front of the one a leap behind its place.
+// Skips the rows of each walk before the one that is a leap after its place.
 #[inline(always)]
 fn pass_to(walks: &mut [Rows<'_>; BLOCK], places: &[usize; BLOCK], leap: usize) {
     for i in 0..BLOCK {
         let ahead = places[i].saturating_add(leap) % STRIDE;
-        walks[i] = rows_behind(walks[i].ahead(), ahead);
+        walks[i] = rows_behind(walks[i].second_walk(), ahead);
     }
 }
 
@@ -201,7 +201,7 @@ fn is_less(rows: &mut Rows<'_>, word: u64) -> bool {
     }
 }
 
-// The rows behind so many of these, or behind fewer.
+// The rows after so many of these, or after fewer if there are fewer.
 #[inline(always)]
 fn rows_behind(mut rows: Rows<'_>, count: usize) -> Rows<'_>
     ensures { AreLast rows.entry result }
@@ -215,7 +215,7 @@ fn rows_behind(mut rows: Rows<'_>, count: usize) -> Rows<'_>
     }
 }
 
-// How many low bits of a word of k bases are not of its prefix, in a table of so many rows.
+// How many low bits of a word of k bases are outside its prefix, in a table of so many rows.
 fn shift_for(rows: usize, k: K) -> u32
     ensures { result < 64 }
 {
@@ -223,7 +223,7 @@ fn shift_for(rows: usize, k: K) -> u32
     bits.saturating_sub((rows / ROWS_A_START).max(1).ilog2())
 }
 
-// The walks over the rows of the table, in room for one of so many rows.
+// The walks over the rows of the table, in room for one for each so many rows.
 fn walks_of<'a>(alloc: Global, tally: &'a Tally) -> Result<Vec<Rows<'a>>, AllocError>
     ensures last { IfOk result (λ walks. All (λ rows. AreLast tally.now.rows rows) walks.items) }
     ensures bounded { IfOk result (λ walks. vec_capacity walks ≤ length tally.now.rows / 1024 + 1) }
@@ -232,13 +232,13 @@ fn walks_of<'a>(alloc: Global, tally: &'a Tally) -> Result<Vec<Rows<'a>>, AllocE
     let mut walks = Vec::with_capacity(alloc, room)?;
     let mut rest = tally.rows();
     for _ in 0..room {
-        walks.push_reserved(rest.ahead());
+        walks.push_reserved(rest.second_walk());
         rest = rows_behind(rest, STRIDE);
     }
     Ok(walks)
 }
 
-// For each prefix the place of the last row with a lesser one, in room for one of so many rows.
+// For each prefix the place of the last row with a lesser one, in room for one for each so many rows.
 fn starts_of(alloc: Global, tally: &Tally, shift: u32) -> Result<Vec<u32>, AllocError>
     requires { shift < 64 }
     ensures { IfOk result (λ starts. vec_capacity starts ≤ length tally.now.rows / 8) }
@@ -253,8 +253,8 @@ fn starts_of(alloc: Global, tally: &Tally, shift: u32) -> Result<Vec<u32>, Alloc
     Ok(starts)
 }
 
-// Puts the places of the prefixes that begin in these rows behind the others, as far as there is room. The first of the
-// rows has this place.
+// Appends the places of the prefixes that begin in these rows to the others, as far as there is room. `place` is the
+// place of the first row.
 fn put_starts(starts: &mut Vec<u32>, rows: Rows<'_>, shift: u32, place: usize)
     requires { shift < 64 }
     ensures { vec_capacity starts.new ≡ vec_capacity starts.old }
@@ -266,7 +266,7 @@ fn put_starts(starts: &mut Vec<u32>, rows: Rows<'_>, shift: u32, place: usize)
     }
 }
 
-// Puts the start for each prefix up to this one that has none yet, as far as there is room.
+// Sets the start of each prefix up to this one that has none yet, as far as there is room.
 #[inline(always)]
 fn put_start(starts: &mut Vec<u32>, prefix: usize, start: usize)
     ensures { vec_capacity starts.new ≡ vec_capacity starts.old }

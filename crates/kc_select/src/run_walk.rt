@@ -1,4 +1,4 @@
-//! Runs of equal counts, of counts that come one after another.
+//! Runs of equal counts, from counts that come one at a time.
 ghost use Rattle.std.specs.Prelude.{◌≡◌, ◌+◌, ◌-◌, ◌<◌, ◌^◌, ◌++◌, ◌∷◌, List, ℕ, [], Option, None};
 ghost use Rattle.std.specs.Option.{option_to_list};
 ghost use Rattle.kc_select.specs.Profiles.{runs_from};
@@ -11,13 +11,13 @@ use std::marker::Model;
 pub(crate) struct CountRun {
     // The position of the first word, from 0.
     pub(crate) start: u64,
-    // The position behind that of the last word.
+    // The position after that of the last word.
     pub(crate) end: u64,
     // The count of each word.
     pub(crate) count: u64,
 }
 
-// Takes the counts along a read, and answers the runs of equal ones.
+// Takes the counts along a read, and returns the runs of equal ones.
 #[derive(Drop)]
 pub(crate) struct RunWalk {
     at: u64,
@@ -45,8 +45,8 @@ impl RunWalk {
         RunWalk { at: 0, last: None }
     }
 
-    // Takes the next count, or that the position has none, and answers the run that ends before it, if one does.
-    // Condition: fewer than 2^64 - 1 came before.
+    // Takes the next count, or None for a position without one, and returns the run that ends before it, if there is
+    // one. Condition: fewer than 2^64 - 1 came before.
     pub(crate) fn push(&mut self, count: Option<u64>) -> Option<CountRun>
         requires { self.old.at < 2 ^ 64 - 1 }
         ensures at { self.new.at ≡ self.old.at + 1 }
@@ -78,7 +78,7 @@ impl RunWalk {
         Some(run)
     }
 
-    // Answers the run that was not complete yet, if there is one, and leaves none.
+    // Returns the run that is not complete yet, if there is one, and leaves none.
     pub(crate) fn end(&mut self) -> Option<CountRun>
         ensures at { self.new.at ≡ self.old.at }
         ensures last { self.new.last ≡ None }

@@ -1,4 +1,4 @@
-//! From the reads of two sources to the texts of the pairs that are selected.
+//! From the reads of two sources to the texts of the selected pairs.
 ghost use Rattle.std.specs.Prelude.{◌≡◌, ◌≤◌, ◌++◌, IfOk, OnOk, OnErr};
 ghost use Rattle.kc_io.specs.Sinks.{HasBegun, Drains};
 ghost use Rattle.kc_fastx.specs.Parsing.{most_bytes};
@@ -17,14 +17,14 @@ use kc_io::{Block, Failed, Sink, write_out};
 use std::alloc::Global;
 
 /// Writes the pairs of reads that the selection keeps to one sink, whole and in order: each read of the first source,
-/// and then its mate of the second one, as `select` writes them. The n-th record of the first source and the n-th of
-/// the second are a pair. At most the selection's limit of bytes is taken of each source. It answers how many these
-/// are together, and what was counted of both reads of each pair. Condition: the limit is at most 2^36.
+/// followed by its mate of the second one, as `select` writes them. Record n of the first source and record n of the
+/// second are a pair. At most as many bytes of each source are taken as the selection's limit. Returns how many bytes
+/// were taken of both, and the numbers of both reads of each pair. Condition: the limit is at most 2^36.
 ///
 /// # Errors
-/// `Reads` with the side whose reads met a fault, the first one where both meet one at the same record. `Unpaired` with
-/// the number of a record that has no mate. The selected ones of the pairs before it were written and flushed. `Write`
-/// where the writer failed or took no byte. It took a beginning of the text of those that were selected.
+/// `Reads` with the side whose reads met a fault, the first one if both meet one at the same record. `Unpaired` with
+/// the number of a record that has no mate. The selected pairs before it were written and flushed. `Write` if the
+/// writer failed or took no byte. It took a beginning of the text of the selected ones.
 pub fn select_into_one<S: Source, T: Source, W: Sink>(
     alloc: Global,
     first: &mut S,
@@ -38,7 +38,7 @@ pub fn select_into_one<S: Source, T: Source, W: Sink>(
         (record { first = S.seen first.new; second = T.seen second.new })
         (W.seen writer.old) (W.seen writer.new) result }
 {
-    // for the proof: what is known of a length
+    // for the proof: facts about a length
     let _bases = selection.selector().k().get();
     let mut block = Block::new();
     let mut counts = SelectionCounts::none();
@@ -50,7 +50,7 @@ pub fn select_into_one<S: Source, T: Source, W: Sink>(
         match reading.next_pair(first, second, counts.reads / 2 + 1) {
             Ok(Some(reads)) => {
                 let judged = put_in_one(writer, &mut block, selection, &reading, &reads)?;
-                counts = counts.and(judged.first).and(judged.second);
+                counts = counts.plus(judged.first).plus(judged.second);
             }
             Ok(None) => {
                 let bytes = reading.byte_count();
@@ -62,7 +62,7 @@ pub fn select_into_one<S: Source, T: Source, W: Sink>(
     }
 }
 
-// Puts the text of the pair behind the block, where the selection keeps it, and answers what is counted of its reads.
+// Appends the text of the pair to the block, if the selection keeps it, and returns the numbers of its reads.
 fn put_in_one<W: Sink>(
     writer: &mut W,
     block: &mut Block,
@@ -86,7 +86,7 @@ fn put_in_one<W: Sink>(
     Ok(judged.counts)
 }
 
-// Puts the texts of both records of a pair that is kept behind the block.
+// Appends the texts of both records of a pair that is kept to the block.
 fn put_mates<W: Sink>(
     writer: &mut W,
     block: &mut Block,
@@ -105,7 +105,7 @@ fn put_mates<W: Sink>(
     put_kept(writer, block, selector, title, &reads.second)
 }
 
-// The answer, where what stood in the blocks was written, and else that a writer failed.
+// The result if the contents of the blocks were written, otherwise that a writer failed.
 pub(crate) fn answer_after(
     written: Result<(), Failed>,
     answer: Result<Selected, PairFault>,

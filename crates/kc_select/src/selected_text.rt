@@ -1,4 +1,4 @@
-//! From the reads of a source to the text of those that are selected.
+//! From the reads of a source to the text of the selected ones.
 ghost use Rattle.std.specs.Prelude.{◌≡◌, ◌≤◌, ◌++◌, ◌∷◌, [], IfOk, IfErr, OnOk, OnErr};
 ghost use Rattle.kc_io.specs.Sinks.{HasBegun, Drains, Writes};
 ghost use Rattle.kc_fastx.specs.Parsing.{most_bytes};
@@ -19,13 +19,13 @@ use kc_io::{Block, Failed, Sink, write_out};
 use std::alloc::Global;
 
 /// Writes the reads of the source that the selection keeps, whole and in order, each with its title: FASTA as FASTA,
-/// and FASTQ as FASTQ, with sequence and quality in one line each; or in place of each its profile. No byte of a read
-/// is written before the read was judged. At most `limit` bytes are taken of the source. It answers how many these
-/// are, and what was counted of the reads. Condition: the limit is at most 2^36.
+/// and FASTQ as FASTQ, with sequence and quality in one line each; or the profile of each instead. No byte of a read is
+/// written before the read was judged. At most `limit` bytes are taken of the source. Returns how many bytes were
+/// taken, and the numbers of the reads. Condition: the limit is at most 2^36.
 ///
 /// # Errors
-/// `Reads` with the fault that the reads met. The selected ones of those before it were written and flushed. `Write`
-/// where the writer failed or took no byte. It took a beginning of the text of those that were selected.
+/// `Reads` with the fault that the reads met. The selected ones before it were written and flushed. `Write` if the
+/// writer failed or took no byte. It took a beginning of the text of the selected ones.
 pub fn select<S: Source, W: Sink>(
     alloc: Global,
     source: &mut S,
@@ -38,7 +38,7 @@ pub fn select<S: Source, W: Sink>(
         (record { source = S.seen source.old; sink = W.seen writer.old })
         (record { source = S.seen source.new; sink = W.seen writer.new }) result }
 {
-    // for the proof: what is known of a length
+    // for the proof: facts about a length
     let _bases = selector.k().get();
     let mut block = Block::new();
     let mut counts = SelectionCounts::none();
@@ -50,7 +50,7 @@ pub fn select<S: Source, W: Sink>(
         match reading.next_titled(alloc, source, &mut title) {
             Ok(Some(read)) => {
                 let judged = put_selected(writer, &mut block, selector, &title, &read)?;
-                counts = counts.and(judged);
+                counts = counts.plus(judged);
             }
             Ok(None) => {
                 let bytes = reading.byte_count();
@@ -61,7 +61,7 @@ pub fn select<S: Source, W: Sink>(
     }
 }
 
-// Puts the text of the record behind the block, where the selection keeps its read, and answers what is counted of it.
+// Appends the text of the record to the block, if the selection keeps its read, and returns the numbers of the read.
 fn put_selected<W: Sink>(
     writer: &mut W,
     block: &mut Block,
@@ -83,7 +83,7 @@ fn put_selected<W: Sink>(
     Ok(counted.of_one(is_kept))
 }
 
-// Puts the text of a record whose read is kept behind the block: the record itself, or its profile.
+// Appends the text of a record whose read is kept to the block: the record itself, or its profile.
 pub(crate) fn put_kept<W: Sink>(
     writer: &mut W,
     block: &mut Block,
@@ -103,7 +103,7 @@ pub(crate) fn put_kept<W: Sink>(
     put_profile(writer, block, &mut walk, title)
 }
 
-// Writes the block, and answers that so many bytes came and what was counted, or that the writer failed.
+// Writes the block, and returns how many bytes came and what was counted, or that the writer failed.
 fn finish<W: Sink>(
     writer: &mut W,
     block: &Block,
@@ -118,7 +118,7 @@ fn finish<W: Sink>(
     Ok(Selected { bytes, counts })
 }
 
-// Writes the block, and answers this fault of the reads, or that the writer failed.
+// Writes the block, and returns this fault of the reads, or that the writer failed.
 fn end_with<W: Sink>(writer: &mut W, block: &Block, fault: FastxFault) -> SelectFault
     ensures { EndsWith (W.seen writer.old) (W.seen writer.new) block.now fault result }
 {

@@ -8,9 +8,9 @@ use std::marker::Model;
 // The least quality byte, which every quality passes.
 const EVERY_QUALITY: u8 = 33;
 
-/// The rule of a selection of reads: the least and the greatest count of a solid word, how many of a hundred words of a
-/// read have to be solid, at most 100, the least quality byte of a usable base, from 33 to 126, whether the reads that
-/// are not solid are selected instead, and whether their profiles are written and not their records.
+/// The rule of a selection of reads: the least and the greatest count of a solid word, the percentage of a read's words
+/// that have to be solid, the least quality byte of a usable base, from 33 to 126, whether the reads that are not solid
+/// are selected instead, and whether their profiles are written instead of their records.
 #[derive(Clone, Copy, PartialEq, Eq, Debug)]
 pub struct Selection {
     least: u64,
@@ -72,8 +72,8 @@ impl Selection {
         }
     }
 
-    /// The selection of all reads, by bases of every quality, of which the profiles are written: the counts of their
-    /// words along them.
+    /// The selection of all reads, by bases of every quality, to write their profiles: the counts of the words along
+    /// them.
     pub fn profiles() -> Selection
         ensures { result ≡ profile_rule 33 }
     {
@@ -84,7 +84,7 @@ impl Selection {
         }
     }
 
-    /// This selection, where no word with a count above `most` is solid.
+    /// This selection, with no word solid whose count is above `most`.
     pub fn with_most(self, most: u64) -> Selection
         ensures { result ≡ record self { most = most } }
     {
@@ -102,7 +102,7 @@ impl Selection {
         Selection { floor, ..selection }
     }
 
-    /// This selection or, where it is inverted, that of the reads that are not solid.
+    /// This selection; if `inverted`, that of the reads that are not solid.
     pub fn with_inverted(self, inverted: bool) -> Selection
         ensures { result ≡ record self { inverted = inverted } }
     {
@@ -127,7 +127,7 @@ impl Selection {
         self.most
     }
 
-    /// How many of a hundred words of a read have to be solid.
+    /// The percentage of a read's words that have to be solid.
     pub fn share(self) -> u64
         ensures value { result ≡ self.share }
         ensures most { result ≤ 100 }
@@ -151,14 +151,14 @@ impl Selection {
         self.inverted
     }
 
-    /// Whether the profiles of the selected reads are written, and not their records.
+    /// Whether the profiles of the selected reads are written, instead of their records.
     pub fn is_profiled(self) -> bool
         ensures { result ≡ self.profiled }
     {
         self.profiled
     }
 
-    // Whether a read or a pair of reads is kept that is solid or is not.
+    // Whether a read or a pair of reads is kept, given whether it is solid.
     pub(crate) fn keeps(self, is_solid: bool) -> bool
         ensures { result ≡ keeps self is_solid }
     {
@@ -173,7 +173,7 @@ impl Selection {
         count >= self.least && count <= self.most
     }
 
-    // Whether a word with this count is solid where a word that the table lacks is not, or the other way round.
+    // Whether a word with this count is solid and a word that the table lacks is not, or the other way round.
     pub(crate) fn is_exception(self, count: u64) -> bool
         ensures { result ≡ is_exception self count }
     {

@@ -1,4 +1,4 @@
-//! What is counted of the reads that a selection judges.
+//! The numbers that a selection counts.
 ghost use Rattle.std.specs.Prelude.{◌≡◌, ◌+◌, ◌^◌, ◌<◌};
 ghost use Rattle.kc_select.specs.Counts.{no_counts, both_counts};
 
@@ -30,7 +30,7 @@ impl SelectionCounts {
     }
 
     /// The sums of both. Condition: no sum is 2^64 or more.
-    pub fn and(self, other: SelectionCounts) -> SelectionCounts
+    pub fn plus(self, other: SelectionCounts) -> SelectionCounts
         requires reads { self.reads + other.reads < 2 ^ 64 }
         requires kept { self.kept + other.kept < 2 ^ 64 }
         requires words { self.words + other.words < 2 ^ 64 }
@@ -46,11 +46,11 @@ impl SelectionCounts {
     }
 }
 
-/// What a selection from a source answers.
+/// The result of selecting reads of a source.
 #[derive(Clone, Copy, Debug, PartialEq, Eq)]
 pub struct Selected {
     /// How many bytes the source gave.
     pub bytes: u64,
-    /// What was counted of its reads.
+    /// The numbers of its reads.
     pub counts: SelectionCounts,
 }

@@ -15,16 +15,16 @@ use kc_word::Only;
 use std::alloc::{AllocError, Global};
 use std::marker::Model;
 
-/// A table and the rule of a selection by it, ready to judge reads. The table's solid words are listed, or those that
-/// are not solid where a word that the table lacks is. So a word is looked up in one or two places of memory. A listed
-/// word takes at most 12 bytes. Where profiles are written, the rows of the table have an index, which takes at most a
+/// A table and the rule of a selection by it, ready to judge reads. The table's solid words are listed; or, if a word
+/// that the table lacks is solid, those that are not. So a word is looked up in one or two places of memory. A listed
+/// word takes at most 12 bytes. If profiles are written, the rows of the table have an index, which takes at most a
 /// tenth of their memory.
 #[derive(Drop)]
 pub struct Selector<'a> {
-    // the table, with places of its words where profiles are written
+    // the table, with an index of its rows if profiles are written
     index: RowIndex<'a>,
     selection: Selection,
-    // the words of the table that are solid where a word that it lacks is not, or are not where such a word is
+    // the words of the table that are solid if a word that it lacks is not, or that are not if such a word is
     exceptions: Only,
 }
 
@@ -71,7 +71,7 @@ impl<'a> Selector<'a> {
         self.index.tally()
     }
 
-    // The table, with places of its words where profiles are written.
+    // The table, with an index of its rows if profiles are written.
     pub(crate) fn index(&self) -> &RowIndex<'a>
         ensures { result.now ≡ self.now.tally }
     {
@@ -93,16 +93,16 @@ impl<'a> Selector<'a> {
         self.selection
     }
 
-    /// Whether the selection keeps the read: a solid one or, where the selection is inverted, one that is not. It takes
-    /// no memory.
+    /// Whether the selection keeps the read: a solid one or, if the selection is inverted, one that is not. It takes no
+    /// memory.
     pub fn is_selected(&self, read: &SeqRead) -> bool
         ensures { result ≡ is_selected self.now.tally self.now.rule read.now }
     {
         self.count_words(read).is_kept(self.selection)
     }
 
-    /// Whether at least the share of the read's words that the selection asks for are solid. A read without words is.
-    /// It takes no memory.
+    /// Whether the percentage of the read's words that are solid is at least the selection's. True for a read without
+    /// words. It takes no memory.
     pub fn is_solid(&self, read: &SeqRead) -> bool
         ensures { result ≡ is_solid self.now.tally self.now.rule read.now }
     {
@@ -135,7 +135,7 @@ impl<'a> Selector<'a> {
     }
 }
 
-// The index of the table's rows, without places where no profile is written.
+// The index of the table's rows, without places if no profile is written.
 fn index_for<'a>(
     alloc: Global,
     tally: &'a Tally,
@@ -150,7 +150,7 @@ fn index_for<'a>(
     }
 }
 
-// The words of the table that are solid where a word that it lacks is not, or are not where such a word is, in rising
+// The words of the table that are solid if a word that it lacks is not, or that are not if such a word is, in ascending
 // order.
 fn exceptions(alloc: Global, tally: &Tally, selection: Selection) -> Result<Vec<u64>, AllocError>
     ensures are { IfOk result (λ words. AreExceptions tally.now selection words.items) }

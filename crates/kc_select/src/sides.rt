@@ -1,11 +1,11 @@
-//! What belongs to the two sides of pairs of reads.
+//! Values for the two sides of pairs of reads.
 
-/// What belongs to the first reads of pairs, and what belongs to the second ones, their mates.
+/// A value for the first reads of pairs, and one for the second ones, their mates.
 #[derive(Drop)]
 pub struct Sides<T> {
-    /// What belongs to the first reads.
+    /// The value for the first reads.
     pub first: T,
-    /// What belongs to the second ones.
+    /// The value for the second ones.
     pub second: T,
 }
 

@@ -13,7 +13,7 @@ pub(crate) struct WordCounts {
 }
 
 impl WordCounts {
-    // Whether at least as many of a hundred words are solid as the selection asks for.
+    // Whether the percentage of solid words is at least the selection's.
     pub(crate) fn has_share(self, selection: Selection) -> bool
         ensures { result ≡ has_share selection self.words self.solid }
     {
@@ -27,7 +27,7 @@ impl WordCounts {
         selection.keeps(self.has_share(selection))
     }
 
-    // What is counted of one read with these words, which is kept or not.
+    // The numbers of one read with these words, which is kept or not.
     pub(crate) fn of_one(self, is_kept: bool) -> SelectionCounts
         ensures { result ≡
             record { reads = 1; kept = if is_kept then 1 else 0; words = self.words; solid = self.solid } }

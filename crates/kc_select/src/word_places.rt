@@ -36,7 +36,7 @@ impl<'a> WordPlaces<'a> {
     }
 }
 
-// The next words, with 0 in place of those that the read has no more.
+// The next words, with 0 for those past the end of the read.
 fn next_words(walk: &mut BaseWalk<'_>) -> [u64; BLOCK] {
     let mut words = [0; BLOCK];
     for i in 0..BLOCK {

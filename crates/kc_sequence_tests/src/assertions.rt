@@ -1,4 +1,4 @@
-//! Assertions that tell what they were about, by its name or its number.
+//! Assertions whose failures show what they were about, by its name or its number.
 use std::alloc::AllocError;
 use std::fmt::{Debug, Display};
 use std::process::Abort;

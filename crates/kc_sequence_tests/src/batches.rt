@@ -1,6 +1,6 @@
 //! The cutting of pieces into batches, and the words of these.
 use crate::assertions::{assert_bytes, assert_numbers, assert_same};
-use crate::sample_reads::{cleaned, k_of, pieces_of, rule_of, words_of_all};
+use crate::sample_reads::{clean_all, k_of, pieces_of, rule_of, words_of_all};
 use kc_fastx::SeqRead;
 use kc_word::{Batch, Cutting, K, PieceView, Rule, clean, cut, read_words, words};
 use std::alloc::{AllocError, Global};
@@ -20,7 +20,7 @@ fn cut_texts(
 }
 
 // The words of a batch, taken one by one.
-fn walked(alloc: Global, batch: &Batch, rule: &Rule) -> Result<Vec<u64>, AllocError> {
+fn collect_words(alloc: Global, batch: &Batch, rule: &Rule) -> Result<Vec<u64>, AllocError> {
     let mut found = Vec::new(alloc);
     for word in batch.walk(rule) {
         found.push(word)?;
@@ -37,7 +37,7 @@ fn assert_words<H: AllocGlobal + Abort>(
 ) -> Result<(), AllocError> {
     let found = words(rt.alloc(), batch, rule)?;
     assert_numbers(rt, "at once", found.as_slice(), want);
-    let found = walked(rt.alloc(), batch, rule)?;
+    let found = collect_words(rt.alloc(), batch, rule)?;
     assert_numbers(rt, "one by one", found.as_slice(), want);
     Ok(())
 }
@@ -52,7 +52,7 @@ fn letters(alloc: Global, piece: &PieceView<'_>) -> Result<Vec<u8>, AllocError> 
 }
 
 // The letters of each piece of a batch.
-fn shown(alloc: Global, batch: &Batch) -> Result<Vec<Vec<u8>>, AllocError> {
+fn piece_texts(alloc: Global, batch: &Batch) -> Result<Vec<Vec<u8>>, AllocError> {
     let mut pieces = Vec::new(alloc);
     for piece in batch.pieces() {
         pieces.push(letters(alloc, &piece)?)?;
@@ -66,7 +66,7 @@ fn assert_pieces<H: AllocGlobal + Abort>(
     batch: &Batch,
     want: &[&[u8]],
 ) -> Result<(), AllocError> {
-    let pieces = shown(rt.alloc(), batch)?;
+    let pieces = piece_texts(rt.alloc(), batch)?;
     assert_same(rt, "pieces", &pieces.len(), &want.len());
     for (piece, letters) in pieces.iter().zip(want) {
         assert_bytes(rt, batch.number(), piece.as_slice(), *letters);
@@ -99,7 +99,7 @@ fn assert_batch<H: AllocGlobal + Abort>(rt: &H, batch: &Batch, row: &Row) -> Res
     Ok(())
 }
 
-// Asserts that two texts are cut into the same batches, each with its number, and answers those of the first. Of the
+// Asserts that two texts are cut into the same batches, each with its number, and returns those of the first. Of the
 // second no piece passes the border of a batch, so that its pieces are those that the batches have.
 fn cut_into<H: AllocGlobal + Abort>(
     rt: &H,
@@ -145,7 +145,7 @@ fn batches(rt: HostRuntime) -> Result<(), Fail> {
     assert_rows(&rt, &batches)
 }
 
-// Asserts that batches have and show what their rows say.
+// Asserts that batches have and display what their rows have.
 fn assert_rows<H: AllocGlobal + Abort>(rt: &H, batches: &[Arc<Batch>]) -> Result<(), Fail> {
     assert_same(rt, "batches", &batches.len(), &BATCHES.len());
     for (batch, row) in batches.iter().zip(BATCHES) {
@@ -157,7 +157,7 @@ fn assert_rows<H: AllocGlobal + Abort>(rt: &H, batches: &[Arc<Batch>]) -> Result
     Ok(())
 }
 
-// Asserts that ten A, of which so many positions go into a batch, give so many batches.
+// Asserts that ten A, with so many positions in a batch, give so many batches.
 fn assert_batches_of_size<H: AllocGlobal + Abort>(
     rt: &H,
     rule: &Rule,
@@ -229,7 +229,7 @@ fn cut_at_once(
     rule: &Rule,
     size: u64,
 ) -> Result<Vec<Arc<Batch>>, AllocError> {
-    cut(alloc, cleaned(alloc, reads, rule)?, rule.k(), size.max(1))
+    cut(alloc, clean_all(alloc, reads, rule)?, rule.k(), size.max(1))
 }
 
 // Takes the piece of a read.

@@ -1,4 +1,4 @@
-//! What no contract says of a counter.
+//! Tests of counters for what no contract states.
 use kc_lemmas::Counter;
 
 #[test]

@@ -112,8 +112,8 @@ static SAMPLE_TEXT: &[u8] =
         GCTTCGTTGACTAGCAACCCAGGGCTATAGCTATT\x0a+\x0a#F#F#F#F#FFFFFFFFFFFFFFF:F::#FF:FFFFFF#F#FF,FF\
         F##,FFFFFFFFFF\x0a";
 
-// What zlib says of the sample with one bit turned, byte by byte, the least bit first: `o`, it is the same text; `b`,
-// it is broken; `s`, it is cut short.
+// The results of zlib for the sample with one bit flipped, byte by byte, the lowest bit first: `o`, it is the same
+// text; `b`, it is broken; `s`, it is cut short.
 static TURNED: &[u8] =
     b"bbbbbbbbbbbbbbbbbbbbbbbbobsbbbbboooooooooooooooooooooooooooooooooooooooooooooooobbbbbbbbbbbb\
         bbbbbbbbbbbbbbbbbbbbbbbbbbbbbbbbbbbbbbbbbbbbbbbbbbbbbbbbbbbbbbbbbbbbbbbbbbbbbbbbbbbbbbbbbb\
@@ -137,7 +137,7 @@ static TURNED: &[u8] =
         bbbbbbbbbbbbbbbbbbbbbbbbbbbbbbbbbbbbbbbbbbbbbbbbbbbbbbbbbbbbbbbbbbbbbbbbbbsbbbbbbbbbbbssss\
         bbsssbbbobssssbbssssssbbbbbbbbbbbbbbbbbbbbbbbbbbbbbbbbbbbbbbbbbbbbbbbbbbbbbbbbbbbbbbbb";
 
-// C, 32,767 times A, and three bytes from 32,768 back; and the same with one A less, where nothing stands so far back.
+// C, 32,767 times A, and three bytes from 32,768 back; and the same with one A less, so nothing is that far back.
 static FARTHEST: &[u8] =
     b"\x1f\x8b\x08\x00\x00\x00\x00\x00\x00\xffsv\x1c\x05\xa3`\x14\x8c\x82Q0\x0aF\xc1(\x18\x05\xa3`\
         \x14\x8c\x82Q0\x0aF\xc1(\x18\x05\xa3`\x14\x8c\x82Q0\x0aF\xc1(\x18\x05\xa3`\x14\x8c\x82Q0\
@@ -170,7 +170,7 @@ static TOO_FAR: &[u8] =
         \x1d\x1d\x1d\x1d\x1d\x1d\x1d\x1d\x1d\x1d\x1d\x1d\x1d\x1d\x1d\x1d\x1d\x81\xf7\xff\x03\x00d\
         \x1f\xd4\xaa\x02\x80\x00\x00";
 
-// A reader that gives so many bytes at a time, and fails where this many are left.
+// A reader that gives so many bytes at a time, and fails if this many are left.
 #[derive(Drop)]
 struct Drops<'a> {
     left: &'a [u8],
@@ -191,8 +191,8 @@ impl Read for Drops<'_> {
     }
 }
 
-// What the source of such a reader tells by reads of 1,000 bytes, and why it fails.
-fn told(alloc: Global, drops: Drops) -> Result<(Vec<u8>, Option<GunzipFault>), Fail> {
+// The text from the source of such a reader by reads of 1,000 bytes, and why it fails.
+fn gunzip_drops(alloc: Global, drops: Drops) -> Result<(Vec<u8>, Option<GunzipFault>), Fail> {
     let mut source = Gunzip::new(alloc, FromRead::new(drops))?;
     let mut text = Vec::new(alloc);
     let mut buffer = [0; 1_000];
@@ -206,13 +206,13 @@ fn told(alloc: Global, drops: Drops) -> Result<(Vec<u8>, Option<GunzipFault>), F
     Ok((text, source.fault()))
 }
 
-// The same of these bytes, so many at a time.
-fn told_of(
+// The same for these bytes, so many at a time.
+fn gunzip_bytes(
     alloc: Global,
     bytes: &[u8],
     most: usize,
 ) -> Result<(Vec<u8>, Option<GunzipFault>), Fail> {
-    told(
+    gunzip_drops(
         alloc,
         Drops {
             left: bytes,
@@ -234,7 +234,7 @@ fn verdict(text: &[u8], fault: Option<GzipFault>) -> u8 {
 }
 
 // The sample with one bit turned.
-fn turned(alloc: Global, place: usize, bit: u32) -> Result<Vec<u8>, Fail> {
+fn with_flipped_bit(alloc: Global, place: usize, bit: u32) -> Result<Vec<u8>, Fail> {
     let mut bytes = Vec::from_slice(alloc, SAMPLE)?;
     if let Some(byte) = bytes.get_mut(place) {
         *byte ^= 1u8.wrapping_shl(bit);
@@ -246,7 +246,7 @@ fn turned(alloc: Global, place: usize, bit: u32) -> Result<Vec<u8>, Fail> {
 fn sources_tell_their_texts_in_parts_of_any_size(rt: HostRuntime) -> Result<(), Fail> {
     for (name, bytes, text) in FILES.iter() {
         for most in [1, 2, 3, 50, 1_000] {
-            let (found, fault) = told_of(rt.alloc(), bytes, most)?;
+            let (found, fault) = gunzip_bytes(rt.alloc(), bytes, most)?;
             assert!(rt; fault.is_none(), "{name}");
             assert!(rt; found.as_slice() == *text, "{name}");
         }
@@ -266,7 +266,7 @@ fn a_source_that_is_no_gzip_is_handed_through(rt: HostRuntime) -> Result<(), Fai
     ];
     for bytes in sources {
         for most in [1, 1_000] {
-            let (found, fault) = told_of(rt.alloc(), bytes, most)?;
+            let (found, fault) = gunzip_bytes(rt.alloc(), bytes, most)?;
             assert!(rt; fault.is_none());
             assert!(rt; found.as_slice() == bytes);
         }
@@ -277,7 +277,7 @@ fn a_source_that_is_no_gzip_is_handed_through(rt: HostRuntime) -> Result<(), Fai
 #[test]
 fn each_turned_bit_is_seen_as_zlib_sees_it(rt: HostRuntime) -> Result<(), Fail> {
     for (index, expected) in TURNED.iter().enumerate() {
-        let bytes = turned(rt.alloc(), index / 8, (index % 8) as u32)?;
+        let bytes = with_flipped_bit(rt.alloc(), index / 8, (index % 8) as u32)?;
         let found = match gunzip(rt.alloc(), &bytes) {
             Ok(text) => verdict(&text, None),
             Err(fault) => verdict(b"", Some(fault)),
@@ -294,8 +294,8 @@ fn a_source_sees_turned_bits_too(rt: HostRuntime) -> Result<(), Fail> {
         if index < 16 || index % 5 > 0 {
             continue;
         }
-        let bytes = turned(rt.alloc(), index / 8, (index % 8) as u32)?;
-        let found = match told_of(rt.alloc(), &bytes, 70)? {
+        let bytes = with_flipped_bit(rt.alloc(), index / 8, (index % 8) as u32)?;
+        let found = match gunzip_bytes(rt.alloc(), &bytes, 70)? {
             (text, None) => verdict(&text, None),
             (_, Some(GunzipFault::Gzip(fault))) => verdict(b"", Some(fault)),
             (_, Some(_)) => b'?',
@@ -308,7 +308,7 @@ fn a_source_sees_turned_bits_too(rt: HostRuntime) -> Result<(), Fail> {
 #[test]
 fn a_source_that_ends_early_is_cut_short(rt: HostRuntime) -> Result<(), Fail> {
     for end in 2..SAMPLE.len() {
-        let (_, fault) = told_of(rt.alloc(), &SAMPLE[..end], 100)?;
+        let (_, fault) = gunzip_bytes(rt.alloc(), &SAMPLE[..end], 100)?;
         assert!(rt; fault == Some(GunzipFault::Gzip(GzipFault::Short)), "{end}");
     }
     Ok(())
@@ -322,7 +322,7 @@ fn a_read_that_fails_is_told(rt: HostRuntime) -> Result<(), Fail> {
             most: 1,
             fails_with,
         };
-        let (_, fault) = told(rt.alloc(), drops)?;
+        let (_, fault) = gunzip_drops(rt.alloc(), drops)?;
         assert!(rt; fault == Some(GunzipFault::Read), "{fails_with}");
     }
     Ok(())
@@ -330,11 +330,11 @@ fn a_read_that_fails_is_told(rt: HostRuntime) -> Result<(), Fail> {
 
 #[test]
 fn copies_reach_back_as_far_as_the_window(rt: HostRuntime) -> Result<(), Fail> {
-    let (text, fault) = told_of(rt.alloc(), FARTHEST, 100)?;
+    let (text, fault) = gunzip_bytes(rt.alloc(), FARTHEST, 100)?;
     assert!(rt; fault.is_none());
     assert_eq!(rt; text.len(), 32_771);
     assert_eq!(rt; crc32(&text), 4_263_247_158);
-    let (_, fault) = told_of(rt.alloc(), TOO_FAR, 100)?;
+    let (_, fault) = gunzip_bytes(rt.alloc(), TOO_FAR, 100)?;
     assert!(rt; fault == Some(GunzipFault::Gzip(GzipFault::Broken)));
     Ok(())
 }
@@ -348,8 +348,8 @@ fn reader_of(bytes: &[u8], most: usize) -> Drops<'_> {
     }
 }
 
-// What an intake takes of such a reader, filling by filling, and why it stops before the end.
-fn taken(alloc: Global, drops: Drops, limit: u64) -> Result<(Vec<u8>, Option<TakeFault>), Fail> {
+// What an intake takes from such a reader, call by call, and why it stops before the end.
+fn take_all(alloc: Global, drops: Drops, limit: u64) -> Result<(Vec<u8>, Option<TakeFault>), Fail> {
     let mut source = FromRead::new(drops);
     let mut intake = Intake::new(alloc, limit)?;
     let mut text = Vec::new(alloc);
@@ -367,8 +367,8 @@ fn taken(alloc: Global, drops: Drops, limit: u64) -> Result<(Vec<u8>, Option<Tak
     Ok((text, Some(TakeFault::Memory)))
 }
 
-// How many bytes such a reader says, or why not all come.
-fn skipped(alloc: Global, drops: Drops, limit: u64) -> Result<Result<u64, TakeFault>, Fail> {
+// The length of the text of such a reader, or why it does not all come.
+fn skip_all(alloc: Global, drops: Drops, limit: u64) -> Result<Result<u64, TakeFault>, Fail> {
     let mut source = FromRead::new(drops);
     let intake = Intake::new(alloc, limit)?;
     Ok(intake.skip_rest(&mut source))
@@ -379,10 +379,10 @@ fn an_intake_takes_what_the_bytes_say(rt: HostRuntime) -> Result<(), Fail> {
     let alloc = rt.alloc();
     for (name, bytes, text) in FILES.iter() {
         for most in [1, 3, 1_000] {
-            let (found, fault) = taken(alloc, reader_of(bytes, most), 1_000)?;
+            let (found, fault) = take_all(alloc, reader_of(bytes, most), 1_000)?;
             assert!(rt; fault.is_none(), "{name}");
             assert!(rt; found.as_slice() == *text, "{name}");
-            let count = skipped(alloc, reader_of(bytes, most), 1_000)?;
+            let count = skip_all(alloc, reader_of(bytes, most), 1_000)?;
             assert!(rt; count == Ok(text.len() as u64), "{name}");
         }
     }
@@ -395,10 +395,10 @@ fn an_intake_takes_other_bytes_as_they_are(rt: HostRuntime) -> Result<(), Fail> 
     let sources: [&[u8]; 5] = [b"", b"\x1f", b"\x8b\x1f", b"A\n", SAMPLE_TEXT];
     for bytes in sources {
         for most in [1, 1_000] {
-            let (found, fault) = taken(alloc, reader_of(bytes, most), 1_000)?;
+            let (found, fault) = take_all(alloc, reader_of(bytes, most), 1_000)?;
             assert!(rt; fault.is_none());
             assert!(rt; found.as_slice() == bytes);
-            let count = skipped(alloc, reader_of(bytes, most), 1_000)?;
+            let count = skip_all(alloc, reader_of(bytes, most), 1_000)?;
             assert!(rt; count == Ok(bytes.len() as u64));
         }
     }
@@ -410,12 +410,12 @@ fn an_intake_takes_as_many_bytes_as_its_limit(rt: HostRuntime) -> Result<(), Fai
     let alloc = rt.alloc();
     for bytes in [SAMPLE, SAMPLE_TEXT] {
         for most in [1, 1_000] {
-            let (found, fault) = taken(alloc, reader_of(bytes, most), 512)?;
+            let (found, fault) = take_all(alloc, reader_of(bytes, most), 512)?;
             assert!(rt; fault.is_none() && found.as_slice() == SAMPLE_TEXT);
-            let (_, fault) = taken(alloc, reader_of(bytes, most), 511)?;
+            let (_, fault) = take_all(alloc, reader_of(bytes, most), 511)?;
             assert!(rt; fault == Some(TakeFault::TooLong));
-            assert!(rt; skipped(alloc, reader_of(bytes, most), 512)? == Ok(512));
-            assert!(rt; skipped(alloc, reader_of(bytes, most), 511)? == Err(TakeFault::TooLong));
+            assert!(rt; skip_all(alloc, reader_of(bytes, most), 512)? == Ok(512));
+            assert!(rt; skip_all(alloc, reader_of(bytes, most), 511)? == Err(TakeFault::TooLong));
         }
     }
     Ok(())
@@ -476,18 +476,18 @@ fn an_intake_sees_that_gzip_is_cut_short_or_broken(rt: HostRuntime) -> Result<()
     let alloc = rt.alloc();
     for end in [2, 100, SAMPLE.len() - 1] {
         let cut = &SAMPLE[..end];
-        let (_, fault) = taken(alloc, reader_of(cut, 1), 1_000)?;
+        let (_, fault) = take_all(alloc, reader_of(cut, 1), 1_000)?;
         assert!(rt; fault == Some(TakeFault::Short), "{end}");
         assert!(rt;
-            skipped(alloc, reader_of(cut, 50), 1_000)? == Err(TakeFault::Short),
+            skip_all(alloc, reader_of(cut, 50), 1_000)? == Err(TakeFault::Short),
             "{end}"
         );
     }
     // the text is all there; its check sum is wrong
-    let bytes = turned(alloc, SAMPLE.len() - 5, 0)?;
-    let (found, fault) = taken(alloc, reader_of(&bytes, 1), 1_000)?;
+    let bytes = with_flipped_bit(alloc, SAMPLE.len() - 5, 0)?;
+    let (found, fault) = take_all(alloc, reader_of(&bytes, 1), 1_000)?;
     assert!(rt; fault == Some(TakeFault::Broken));
     assert!(rt; found.as_slice() == SAMPLE_TEXT);
-    assert!(rt; skipped(alloc, reader_of(&bytes, 50), 1_000)? == Err(TakeFault::Broken));
+    assert!(rt; skip_all(alloc, reader_of(&bytes, 50), 1_000)? == Err(TakeFault::Broken));
     Ok(())
 }

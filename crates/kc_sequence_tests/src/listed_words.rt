@@ -93,7 +93,7 @@ fn words_held(rt: HostRuntime) -> Result<(), Fail> {
     Ok(())
 }
 
-// Asserts what a row says of the list of its reads.
+// Asserts the result of a row for the list of its reads.
 fn assert_held<H: AllocGlobal + Abort>(rt: &H, row: usize, held: &Held) -> Result<(), Fail> {
     let (texts, both, word, want) = held;
     let rule = rule_of(word.len().min(31) as u32, *both)?;
@@ -198,7 +198,8 @@ fn many_words_are_looked_up(rt: HostRuntime) -> Result<(), Fail> {
     Ok(())
 }
 
-// Asserts which words of 6,000 bases, of which the first 3,000 make the list, it holds, and which are left by it.
+// The list has the words of the first 3,000 of 6,000 bases: asserts which of all their words it has, and which it
+// leaves.
 fn assert_looked_up<H: AllocGlobal + Abort>(rt: &H, row: usize, rule: &Rule) -> Result<(), Fail> {
     let alloc = rt.alloc();
     let mut reads = Vec::new(alloc);

@@ -16,7 +16,7 @@ fn failure() -> io::Error {
     io::Error::from(io::ErrorKind::Other)
 }
 
-// A reader that gives one byte at a time, is interrupted before each, and fails where this many are left.
+// A reader that gives one byte at a time, is interrupted before each, and fails if this many are left.
 #[derive(Drop)]
 struct Slow<'a> {
     left: &'a [u8],
@@ -123,7 +123,7 @@ fn bytes_taken_one_at_a_time(rt: HostRuntime) -> Result<(), Fail> {
     Ok(())
 }
 
-// Asserts that the text, of which a read fails where so many bytes are left, is refused with this fault.
+// Asserts that the text is refused with this fault, if a read fails with so many bytes left.
 fn assert_refused<H: AllocGlobal + Abort>(rt: &H, fails_with: usize, limit: u64, fault: TakeFault) {
     match take_slowly(rt.alloc(), fails_with, limit) {
         Ok(_) => assert!(rt; false, "{fails_with} bytes left, limit {limit}"),
@@ -178,13 +178,13 @@ fn nothing_more_comes<H: AllocGlobal + Abort, S: Source>(
     Ok(())
 }
 
-// What an intake of this room answers when it takes five bytes.
+// What an intake of this room returns when it takes five bytes.
 fn fill(alloc: Global, limit: u64) -> Result<bool, TakeFault> {
     let mut intake = Intake::new(alloc, limit)?;
     intake.fill(&mut FromBytes::new(b"ACGTA"))
 }
 
-// What an intake of this room answers when it skips five bytes.
+// What an intake of this room returns when it skips five bytes.
 fn skip(alloc: Global, limit: u64) -> Result<u64, TakeFault> {
     let intake = Intake::new(alloc, limit)?;
     intake.skip_rest(&mut FromBytes::new(b"ACGTA"))
@@ -217,7 +217,7 @@ fn bytes_of_a_slice(rt: HostRuntime) -> Result<(), Fail> {
     Ok(())
 }
 
-// Asserts that an intake takes GTA of the source, and then is told of its end.
+// Asserts that an intake takes GTA from the source, and then its end.
 fn fills_to_its_end<H: AllocGlobal + Abort, S: Source>(rt: &H, source: &mut S) -> Result<(), Fail> {
     let mut rest = Intake::new(rt.alloc(), 3)?;
     assert_fills(rt, &mut rest, source, b"GTA");

@@ -18,8 +18,8 @@ pub fn rule_of(k: u32, both: bool) -> Result<Rule, Fail> {
     Ok(Rule::new(k_of(k)?, both, b'!'))
 }
 
-// A copy of these qualities, where there are some.
-fn copied(alloc: Global, quals: Option<&[u8]>) -> Result<Option<Vec<u8>>, AllocError> {
+// A copy of these qualities, if there are some.
+fn copy_of_quals(alloc: Global, quals: Option<&[u8]>) -> Result<Option<Vec<u8>>, AllocError> {
     match quals {
         None => Ok(None),
         Some(quals) => Ok(Some(quals.to_vec(alloc)?)),
@@ -29,7 +29,7 @@ fn copied(alloc: Global, quals: Option<&[u8]>) -> Result<Option<Vec<u8>>, AllocE
 /// A read of these bases and qualities.
 pub fn read_of(alloc: Global, bases: &[u8], quals: Option<&[u8]>) -> Result<SeqRead, Fail> {
     let bases = bases.to_vec(alloc)?;
-    let quals = copied(alloc, quals)?;
+    let quals = copy_of_quals(alloc, quals)?;
     match SeqRead::new(bases, quals) {
         Some(read) => Ok(read),
         None => Err(Fail::from("no read")),
@@ -46,7 +46,7 @@ pub fn reads_of(alloc: Global, texts: &[&[u8]]) -> Result<Vec<SeqRead>, Fail> {
 }
 
 /// The pieces of these reads.
-pub fn cleaned(alloc: Global, reads: &[SeqRead], rule: &Rule) -> Result<Vec<Piece>, AllocError> {
+pub fn clean_all(alloc: Global, reads: &[SeqRead], rule: &Rule) -> Result<Vec<Piece>, AllocError> {
     let mut pieces = Vec::new(alloc);
     for read in reads {
         pieces.push(clean(alloc, read, rule)?)?;
@@ -57,7 +57,7 @@ pub fn cleaned(alloc: Global, reads: &[SeqRead], rule: &Rule) -> Result<Vec<Piec
 /// The pieces of these bases.
 pub fn pieces_of(alloc: Global, texts: &[&[u8]], rule: &Rule) -> Result<Vec<Piece>, Fail> {
     let reads = reads_of(alloc, texts)?;
-    Ok(cleaned(alloc, &reads, rule)?)
+    Ok(clean_all(alloc, &reads, rule)?)
 }
 
 /// The words of all batches.

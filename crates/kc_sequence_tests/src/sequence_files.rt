@@ -7,7 +7,7 @@ use std::io::Read;
 use std::process::Abort;
 use std::test::Fail;
 
-// Puts the bases of a read behind a text, then its qualities behind a blank where it has them, and a bar.
+// Appends the bases of a read to a text, then its qualities after a blank if it has them, and a bar.
 fn push_read(text: &mut Vec<u8>, read: &SeqRead) -> Result<(), AllocError> {
     text.extend_from_slice(read.bases())?;
     if let Some(quals) = read.quals() {
@@ -16,7 +16,7 @@ fn push_read(text: &mut Vec<u8>, read: &SeqRead) -> Result<(), AllocError> {
     text.extend_from_slice(b"|")
 }
 
-// Puts two parts behind a text.
+// Appends two parts to a text.
 fn push_parts(text: &mut Vec<u8>, part: &[u8], next: &[u8]) -> Result<(), AllocError> {
     text.extend_from_slice(part)?;
     text.extend_from_slice(next)
@@ -31,22 +31,25 @@ fn text_of_reads(alloc: Global, reads: &[SeqRead]) -> Result<Vec<u8>, AllocError
     Ok(text)
 }
 
-// What was answered as one text: the reads, or the fault.
-fn shown(alloc: Global, answer: &Result<Vec<SeqRead>, FastxFault>) -> Result<Vec<u8>, AllocError> {
+// What was returned as one text: the reads, or the fault.
+fn answer_text(
+    alloc: Global,
+    answer: &Result<Vec<SeqRead>, FastxFault>,
+) -> Result<Vec<u8>, AllocError> {
     match answer {
         Ok(reads) => text_of_reads(alloc, reads),
         Err(fault) => format!(in alloc; "{fault}")?.as_bytes().to_vec(alloc),
     }
 }
 
-// Asserts that this was answered. A failure tells the number of its row, its bytes or its read.
+// Asserts that this was returned. A failure shows the number of its row, its bytes or its read.
 fn assert_shown<H: AllocGlobal + Abort>(
     rt: &H,
     number: u64,
     answer: &Result<Vec<SeqRead>, FastxFault>,
     want: &[u8],
 ) -> Result<(), AllocError> {
-    let got = shown(rt.alloc(), answer)?;
+    let got = answer_text(rt.alloc(), answer)?;
     assert_bytes(rt, number, got.as_slice(), want);
     Ok(())
 }
@@ -87,7 +90,7 @@ fn slow_source(bytes: &[u8], fails_at: u64) -> FromRead<Slow<'_>> {
 }
 
 // What a reader gives of this source up to its end or a fault.
-fn collected<S: Source + Drop>(
+fn collect_reads<S: Source + Drop>(
     alloc: Global,
     source: S,
     limit: u32,
@@ -102,7 +105,7 @@ fn collected<S: Source + Drop>(
     Ok(given)
 }
 
-// Takes one more read of the reader, where one comes.
+// Takes one more read of the reader, if one comes.
 fn take_read<S: Source + Drop>(
     reads: &mut Reads<S>,
     given: &mut Vec<SeqRead>,
@@ -119,20 +122,16 @@ fn take_read<S: Source + Drop>(
 
 // What a reader gives of these bytes.
 fn collected_bytes(alloc: Global, bytes: &[u8]) -> Result<Vec<SeqRead>, FastxFault> {
-    collected(alloc, FromBytes::new(bytes), 1 << 20)
+    collect_reads(alloc, FromBytes::new(bytes), 1 << 20)
 }
 
 // What a reader gives of these bytes, which come one at a time.
-fn collected_slowly(
-    alloc: Global,
-    bytes: &[u8],
-    fails_at: u64,
-) -> Result<Vec<SeqRead>, FastxFault> {
-    collected(alloc, slow_source(bytes, fails_at), 1 << 20)
+fn collect_slowly(alloc: Global, bytes: &[u8], fails_at: u64) -> Result<Vec<SeqRead>, FastxFault> {
+    collect_reads(alloc, slow_source(bytes, fails_at), 1 << 20)
 }
 
-// The reads of all bytes of a source, of which there are at most this many, and how many bytes there are. It promises
-// nothing, since what is read is compared when a test runs.
+// The reads of all bytes of a source, at most this many, and how many bytes there are. It has no contract, since the
+// result is compared when a test runs.
 fn all_reads<S: Source>(
     alloc: Global,
     source: &mut S,
@@ -141,23 +140,23 @@ fn all_reads<S: Source>(
     read_all(alloc, source, u64::from(limit))
 }
 
-// What `read_all` answers of these bytes, given one at a time.
+// What `read_all` returns of these bytes, given one at a time.
 fn read_slowly(alloc: Global, bytes: &[u8], fails_at: u64) -> Result<Vec<SeqRead>, FastxFault> {
     let (reads, _count) = all_reads(alloc, &mut slow_source(bytes, fails_at), 1 << 20)?;
     Ok(reads)
 }
 
-// Bytes, and what is answered of them.
+// Bytes, and what is returned of them.
 type Row = (&'static [u8], &'static [u8]);
 
-// Asserts the answers of all rows, at once, read by read and byte by byte.
+// Asserts the results of all rows, at once, read by read and byte by byte.
 fn assert_rows<H: AllocGlobal + Abort>(rt: &H, rows: &[Row]) -> Result<(), AllocError> {
     let alloc = rt.alloc();
     for (row, (bytes, want)) in rows.iter().enumerate() {
         let row = row as u64;
         assert_shown(rt, row, &parse(alloc, *bytes), *want)?;
         assert_shown(rt, row, &collected_bytes(alloc, *bytes), *want)?;
-        assert_shown(rt, row, &collected_slowly(alloc, *bytes, u64::MAX), *want)?;
+        assert_shown(rt, row, &collect_slowly(alloc, *bytes, u64::MAX), *want)?;
     }
     Ok(())
 }
@@ -211,7 +210,7 @@ fn fastq_rows(rt: HostRuntime) -> Result<(), AllocError> {
 
 const WRAPPED_READ: &[u8] = b"@q\nAC\nGT\n+q\n@I\nII\n";
 
-// What is answered of the first bytes of the wrapped read: of none, of one, and so on.
+// What is returned of the first bytes of the wrapped read: of none, of one, and so on.
 const FRONTS: &[&[u8]] = &[
     b"",
     b"truncated, line 1",
@@ -245,7 +244,7 @@ fn every_front_of_a_wrapped_read(rt: HostRuntime) -> Result<(), AllocError> {
     Ok(())
 }
 
-// Asserts what is answered of these bytes, at once and byte by byte.
+// Asserts what is returned of these bytes, at once and byte by byte.
 fn assert_front<H: AllocGlobal + Abort>(
     rt: &H,
     front: &[u8],
@@ -268,7 +267,7 @@ fn every_failed_read(rt: HostRuntime) -> Result<(), AllocError> {
 
 const FAULTY: &[u8] = b">r\nA@C\n>s\nAC\n";
 
-// A fault of the lines is told at once by a reader, and by `read_all` behind a failed read and a passed limit.
+// A reader reports a fault of the lines at once, and `read_all` after a failed read and a passed limit.
 #[test]
 fn faults_behind_faults(rt: HostRuntime) -> Result<(), AllocError> {
     let alloc = rt.alloc();
@@ -282,13 +281,13 @@ fn faults_behind_faults(rt: HostRuntime) -> Result<(), AllocError> {
     assert_shown(
         &rt,
         8,
-        &collected_slowly(alloc, FAULTY, 8),
+        &collect_slowly(alloc, FAULTY, 8),
         b"bad base, line 2",
     )?;
     assert_shown(
         &rt,
         20,
-        &collected_slowly(alloc, FAULTY, 20),
+        &collect_slowly(alloc, FAULTY, 20),
         b"bad base, line 2",
     )?;
     let passed = fault_of(alloc, &mut slow_source(FAULTY, u64::MAX), 9);
@@ -296,7 +295,7 @@ fn faults_behind_faults(rt: HostRuntime) -> Result<(), AllocError> {
     Ok(())
 }
 
-// Why all bytes of a source, of which there are more than this limit, are refused.
+// Why all bytes of a source are refused that has more than this limit.
 fn fault_of<S: Source>(alloc: Global, source: &mut S, limit: u32) -> Option<FastxFault> {
     match all_reads(alloc, source, limit) {
         Ok(_) => None,
@@ -313,7 +312,7 @@ fn has_more<S: Source + Drop>(reads: &mut Reads<S>) -> Result<bool, FastxFault> 
     }
 }
 
-// What a reader answers once more behind the end, and behind a failed read.
+// What a reader returns once more after the end, and after a failed read.
 #[test]
 fn asked_again(rt: HostRuntime) -> Result<(), AllocError> {
     let mut reads = Reads::new(rt.alloc(), FromBytes::new(b">r\nAC\n\n"), 8)?;
@@ -350,7 +349,7 @@ const FAULTS: &[(&[u8], FastxFault)] = &[
     ),
 ];
 
-// A reader that answered a fault answers it again.
+// A reader that returned a fault returns it again.
 #[test]
 fn asked_again_after_a_fault(rt: HostRuntime) -> Result<(), AllocError> {
     for (bytes, fault) in FAULTS {
@@ -375,7 +374,7 @@ fn gives_more<S: Source>(
     }
 }
 
-// A reader takes nothing of its source behind a failed read: the byte that would have come is the next one still.
+// A reader takes nothing of its source after a failed read: the byte that would have come is the next one still.
 #[test]
 fn a_source_that_failed_is_left(rt: HostRuntime) -> Result<(), AllocError> {
     let mut source = slow_source(READ_AND_FRONT, 20);
@@ -395,8 +394,8 @@ fn a_source_that_failed_is_left(rt: HostRuntime) -> Result<(), AllocError> {
 // How many bases a long read has.
 const LONG: usize = 200_000;
 
-// A text of so many bytes in lines of a width.
-fn wrapped(alloc: Global, byte: u8, width: usize) -> Result<Vec<u8>, AllocError> {
+// A text of so many bytes in lines of this width.
+fn wrapped_bases(alloc: Global, byte: u8, width: usize) -> Result<Vec<u8>, AllocError> {
     let mut text = Vec::new(alloc);
     let mut in_line = 0usize;
     for _ in 0..LONG {
@@ -414,15 +413,19 @@ fn wrapped(alloc: Global, byte: u8, width: usize) -> Result<Vec<u8>, AllocError>
 // A long read in lines of a width.
 fn long_fasta(alloc: Global, width: usize) -> Result<Vec<u8>, AllocError> {
     let mut text = b">q\n".to_vec(alloc)?;
-    text.extend_from_slice(&wrapped(alloc, b'A', width)?)?;
+    text.extend_from_slice(&wrapped_bases(alloc, b'A', width)?)?;
     Ok(text)
 }
 
-// A read of FASTQ whose bases and qualities are wrapped, and a short read behind it.
+// A read of FASTQ whose bases and qualities are wrapped, and a short read after it.
 fn long_fastq(alloc: Global, width: usize) -> Result<Vec<u8>, AllocError> {
     let mut text = b"@q\n".to_vec(alloc)?;
-    push_parts(&mut text, &wrapped(alloc, b'A', width)?, b"+\n")?;
-    push_parts(&mut text, &wrapped(alloc, b'I', width)?, b"@r\nAC\n+\nII\n")?;
+    push_parts(&mut text, &wrapped_bases(alloc, b'A', width)?, b"+\n")?;
+    push_parts(
+        &mut text,
+        &wrapped_bases(alloc, b'I', width)?,
+        b"@r\nAC\n+\nII\n",
+    )?;
     Ok(text)
 }
 
@@ -504,7 +507,7 @@ fn limits(rt: HostRuntime) -> Result<(), Fail> {
     Ok(())
 }
 
-// Asserts that ten bytes are read where there may be ten.
+// Asserts that ten bytes are read if there may be ten.
 fn assert_read_to_its_limit<H: AllocGlobal + Abort>(rt: &H) -> Result<(), FastxFault> {
     let (reads, count) = all_reads(rt.alloc(), &mut FromBytes::new(b">r1\nACGTA\n"), 10)?;
     assert_same(rt, "bytes", &count, &10);
@@ -573,11 +576,11 @@ fn assert_two_reads<H: Abort>(rt: &H, reads: &[SeqRead]) {
     }
 }
 
-// What `gzip -9n` makes of these bytes: `>r1`, a line feed, `AC`, and a line feed.
+// The output of `gzip -9n` for these bytes: `>r1`, a line feed, `AC`, and a line feed.
 const GZIPPED: &[u8] = b"\x1f\x8b\x08\x00\x00\x00\x00\x00\x00\xff\xb3+2\xe4rt\xe6\x02\x00\xc6\xce\
     \xff\x9a\x07\x00\x00\x00";
 
-// Asserts that all bytes of the source, which comes byte by byte, are refused so.
+// Asserts that all bytes of the source, which come one by one, are refused with this fault.
 fn assert_not_unzipped<H: AllocGlobal + Abort>(rt: &H, bytes: &[u8], fault: FastxFault) {
     match all_reads(rt.alloc(), &mut slow_source(bytes, u64::MAX), 1 << 30) {
         Ok(_) => assert!(rt; false),
@@ -622,7 +625,7 @@ fn memory_or_the_reads(rt: HostRuntime) {
 }
 
 fn memory_or_one_read<H: AllocGlobal + Abort>(rt: &H) {
-    match collected(rt.alloc(), FromBytes::new(b">r\nAC\n"), 7) {
+    match collect_reads(rt.alloc(), FromBytes::new(b">r\nAC\n"), 7) {
         Ok(reads) => assert_same(rt, "reads", &reads.len(), &1),
         Err(fault) => assert_same(rt, "fault", &fault, &FastxFault::Memory),
     }

@@ -9,7 +9,7 @@ use std::alloc::Global;
 use std::process::Abort;
 use std::test::Fail;
 
-// The length of words of so many bases, where there are such words.
+// The length of words of so many bases, if there are such words.
 fn number_of(k: u32) -> Option<u32> {
     match K::new(k) {
         Some(k) => Some(k.get()),
@@ -35,7 +35,7 @@ fn rules(rt: HostRuntime) -> Result<(), Fail> {
     Ok(())
 }
 
-// The number of the word that these letters are, where they are one of this length.
+// The number of the word that these letters are, if they are one of this length.
 fn packed_number(letters: &[u8], k: K) -> Option<u64> {
     match pack(letters, k) {
         Some(Word(number)) => Some(number),
@@ -60,14 +60,14 @@ const PACKED: &[(&[u8], u32, Option<u64>)] = &[
 ];
 
 #[test]
-fn packed(rt: HostRuntime) -> Result<(), Fail> {
+fn texts_are_packed(rt: HostRuntime) -> Result<(), Fail> {
     for (row, (letters, k, want)) in PACKED.iter().enumerate() {
         assert_same(&rt, row, &packed_number(*letters, k_of(*k)?), want);
     }
     Ok(())
 }
 
-// Asserts that the text of a word is this one, and that nothing behind it is touched.
+// Asserts that the text of a word is this one, and that nothing after it is touched.
 fn assert_text<H: Abort>(rt: &H, letters: &[u8], k: K, want: &[u8]) {
     let mut texts = [b'-'; 31];
     if let Some(word) = pack(letters, k) {
@@ -141,7 +141,7 @@ const CLEANED: &[(&[u8], Option<&[u8]>, &[u8])] = &[
 ];
 
 #[test]
-fn cleaned(rt: HostRuntime) -> Result<(), Fail> {
+fn bases_are_cleaned(rt: HostRuntime) -> Result<(), Fail> {
     let rule = Rule::new(k_of(3)?, false, b'#');
     for (bases, quals, want) in CLEANED {
         assert_cleaned(&rt, &rule, *bases, *quals, *want)?;
@@ -149,7 +149,7 @@ fn cleaned(rt: HostRuntime) -> Result<(), Fail> {
     Ok(())
 }
 
-// The bases of a piece stand 32 to a word of 64 bits: here the last one of the first word is N.
+// A word of 64 bits has 32 bases of a piece: here the last one of the first word is N.
 const TWO_WORDS: &[u8] = b"ACGTACGTACGTACGTACGTACGTACGTACGNT";
 
 #[test]
@@ -263,7 +263,7 @@ fn assert_count<H: AllocGlobal + Abort>(rt: &H, row: usize, count: &Count) -> Re
 }
 
 #[test]
-fn counted_slowly(rt: HostRuntime) -> Result<(), Fail> {
+fn occurrences_are_counted_slowly(rt: HostRuntime) -> Result<(), Fail> {
     for (row, count) in COUNTED.iter().enumerate() {
         assert_count(&rt, row, count)?;
     }

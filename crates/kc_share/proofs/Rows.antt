@@ -1,6 +1,6 @@
 -- Worked rows of the rule. A sheet has two stripes and two parts. One share booked batch 0 with 3 words into stripe 0,
--- the other booked batch 1 with 5 words into it, and was first. So the journal of stripe 0 has both, and that of stripe 1
--- is empty.
+-- the other booked batch 1 with 5 words into it, and was first. So the journal of stripe 0 has both, and that of stripe
+-- 1 is empty.
 use Rattle.std.proofs.Common.{◌≡◌, ℕ, zero, suc, ◌^◌, ◌<◌, ◌≤◌, List, [], ◌∷◌, length, cond, ne_eqb, refl, sym, subst, arith, sum_by}
 use mathlib.Core.Option.{some, some-ne-none, some-injective}
 use lib.ListN.{get_elem?}

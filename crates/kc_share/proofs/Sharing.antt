@@ -1,4 +1,4 @@
--- What the steps make of a share and a keeper.
+-- The effect of the steps on a share and a keeper.
 use Rattle.std.proofs.Common.{◌≡◌, ◌≢◌, ℕ, ◌+◌, ◌^◌, ◌<◌, List, [], ◌∷◌, ◌++◌, length, get_or, set, Bool, true, false, cond, eqb, append-nil, length-append, sym, ap, ◌∙◌, subst, ⊎_elim, arith}
 use Rattle.std.specs.Prelude.{slice_index}
 use Rattle.std.proofs.lemmas.Bool.Decides.{eqb_tells}
@@ -85,7 +85,7 @@ module _ {S : Type 0} {v w : View} {it : KeptStripe} {taken : Me S View} (is : I
 
 -- ---- a share's numbers
 
--- one booking more
+-- one more booking
 words_more : (stripe : ℕ) (v : View) (it : KeptStripe) (entry : Entry) → word_total_in stripe (v.booked ++ booking_of it.stripe entry ∷ []) ≡ word_total_in stripe v.booked + cond (eqb it.stripe stripe) entry.words 0
 unfolding noted_one
 words_more stripe v it entry = booked_more stripe words v it entry

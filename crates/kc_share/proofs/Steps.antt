@@ -1,4 +1,4 @@
--- Each atomic step keeps the rule, and what the rule tells.
+-- Each atomic step keeps the rule, and what follows from the rule.
 use Rattle.std.proofs.Common.{◌≡◌, ◌≢◌, ℕ, zero, suc, ◌+◌, ◌-◌, ◌^◌, ◌<◌, ◌≤◌, List, [], ◌∷◌, ◌++◌, length, map, take, drop, set, Bool, true, false, cond, eqb, append-nil, refl, sym, ap, ◌∙◌, subst, ⊎_elim, arith, sum_by, count_by}
 use Rattle.std.specs.Prelude.{slice_index, replicate}
 use Rattle.std.proofs.lemmas.List.{get_or-replicate}

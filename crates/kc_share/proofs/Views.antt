@@ -136,7 +136,7 @@ split_keeps_rule {plan} {views} id v v' w' whole split = record {
     booked : (stripe : ℕ) (h : Entry → ℕ) → sum_by (booked_weight stripe h) (set views id v' ++ w' ∷ []) ≡ sum_by (booked_weight stripe h) views
     booked stripe h = split_keeps_sum (booked_weight stripe h) split (blank_booked stripe h) (split.same.booked stripe h)
 
--- the views at `id` and `other` are made one, and what is left of the second stands at `other`
+-- the views at `id` and `other` are joined, and what is left of the second is at `other`
 pub record IsJoin (plan : Plan) (views : List View) (id other : ℕ) (v w v' w' : View) : Type 0 where
   pub at : get_elem? views id ≡ some v
   pub there : get_elem? (set views id v') other ≡ some w
@@ -208,7 +208,7 @@ journal_is {plan} {views} id v it h whole at keeps_it =
     let mine : kept_weight it.stripe h v ≡ sum_by h it.journal = ap (λ them. sum_by h (journal_for it.stripe them)) keeps_it ∙ sole_journal it h in
     omega (arith, sum_by-set_elem (kept_weight it.stripe h) views id v blank_view at, all_none it.stripe h others none, mine, blank_kept it.stripe h)
 
--- where all parts are in one view, the others have booked nothing
+-- if all parts are in one view, the others have booked nothing
 pub rest_is_idle : {plan : Plan} {views : List View} (id : ℕ) (v : View) (stripe : ℕ) (h : Entry → ℕ) → Weighed plan views → get_elem? views id ≡ some v → v.parts ≡ plan.parts → sum_by (booked_weight stripe h) views ≡ booked_weight stripe h v
 rest_is_idle {plan} {views} id v stripe h whole at all =
     let others = set views id blank_view in

@@ -1,4 +1,5 @@
--- What the rule of a sheet, and the two ways to compare entries, say in numbers and lists. They are this project's own.
+-- What the rule of a sheet, and the two ways to compare entries, mean in numbers and lists. They are this project's
+-- own.
 use Rattle.std.specs.Prelude.{◌≡◌, ℕ, ◌≤◌, List, length, count_by, Contains}
 use Rattle.std.specs.List.Sorted.{IsPermutation}
 use Rattle.kc_word.specs.Cutting.{NumberedPieces, is_same_batch}
@@ -8,12 +9,12 @@ use Rattle.kc_share.specs.declared.entry.View.{View}
 use Rattle.kc_share.specs.Entries.{word_total, AreSame, AreAmong}
 use Rattle.kc_share.specs.Rule.{booked_entries, kept_entries, IsSheet}
 
--- how many of the entries are of a batch, by value
+-- how many of the entries are of this batch, by value
 abbrev pub times : NumberedPieces → List Entry → ℕ
 times batch entries = count_by (λ entry. is_same_batch entry.batch batch) entries
 
--- On a sheet as many words and entries were booked into a stripe, over all views, as are kept for it, and each batch
--- was booked as often as it is kept.
+-- On a sheet, the bookings into a stripe, over all views, have as many words and entries as are kept for it, and each
+-- batch was booked as often as it is kept.
 abbrev pub AddsUp : Type 0
 AddsUp =
     (plan : Plan) (views : List View) (stripe : ℕ) → IsSheet plan views
@@ -21,11 +22,11 @@ AddsUp =
     × (length (booked_entries stripe views) ≡ length (kept_entries stripe views))
     × ((batch : NumberedPieces) → times batch (booked_entries stripe views) ≡ times batch (kept_entries stripe views))
 
--- entries that are the same, each as often, are the same list in some order
+-- lists with the same entries, each as often, are permutations of each other
 abbrev pub SameInSomeOrder : Type 0
 SameInSomeOrder = (entries others : List Entry) → AreSame entries others → IsPermutation entries others
 
--- what is among other entries stands there, and has no more words or entries
+-- entries that are among others are in the others' list, and have no more words or entries
 abbrev pub AmongIsThere : Type 0
 AmongIsThere =
     (entries others : List Entry) → AreAmong entries others

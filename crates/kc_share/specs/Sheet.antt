@@ -1,4 +1,4 @@
--- A sheet before it is opened under a name, and while its stripes' keepers are made. It is this project's own.
+-- A sheet before it is opened under a name, and while the keepers of its stripes are made. It is this project's own.
 use Rattle.std.specs.Prelude.{ℕ, []}
 use Rattle.atomic_table.specs.Seated.{TableId}
 use Rattle.kc_share.specs.declared.entry.Plan.{Plan}
@@ -22,6 +22,6 @@ pub record OpeningSeen : Type 0 where
 abbrev pub opening_of : Plan → ℕ → OpeningSeen
 opening_of plan next = record { plan = plan; next = next }
 
--- the name of no table
+-- a placeholder for a table's name
 abbrev pub no_table : TableId
 no_table = record { words = 0; slots = 0; views_name = 0; atom = 0; block = 0; offset = 0; slot_names = [] }

@@ -3,8 +3,8 @@ ghost use Rattle.atomic_table.specs.Seated.{TableId};
 
 use std::marker::Brand;
 
-/// The name of one sheet, by which its shares and keepers are distinguished from those of another. What belongs to a
-/// sheet carries its name by a type parameter, so that nothing of another sheet is taken for it. Whoever opens a sheet
+/// The name of one sheet, which distinguishes its shares and keepers from those of another. What belongs to a sheet
+/// carries its name as a type parameter, so nothing of another sheet can be used in its place. Whoever opens a sheet
 /// takes `Brand`, and picks the sheet's own table.
 pub trait Books {
     ghost use Rattle.atomic_table.specs.Seated.{TableId};

@@ -1,9 +1,8 @@
-//! What is booked and kept, as contracts speak of it. No value of these types is made, but of the plan.
+//! What is booked and kept, for contracts. Only the plan has values at run time.
 use kc_word::Batch;
 use std::collections::LinkedList;
 
-/// What a sheet is given once, when it is made: how many stripes there are, and into how many parts its shares can be
-/// split.
+/// What a sheet gets when it is made: how many stripes there are, and into how many parts its shares can be split.
 #[derive(Clone, Copy)]
 pub struct Plan {
     pub stripes: u64,
@@ -28,11 +27,11 @@ pub struct KeptStripe {
     pub journal: LinkedList<Entry>,
 }
 
-/// What a share or a keeper has of its sheet, or both together in the middle of a booking.
+/// What a share or a keeper has of its sheet, or both during a booking.
 pub struct View {
     pub plan: Plan,
     pub parts: u64,
-    // All that was booked with the share.
+    // All that the share booked.
     pub booked: LinkedList<Booking>,
     // The stripes whose journals are kept.
     pub kept: LinkedList<KeptStripe>,

@@ -1,12 +1,11 @@
-//! A keeper: behind a stripe's lock, what the sheet knows of the stripe's journal.
+//! A keeper: behind a stripe's lock, it has what the sheet knows of the stripe's journal.
 
 use crate::books::Books;
 use crate::sheet_rule::Token;
 use std::marker::{Model, PhantomData};
 
-/// A stripe's keeper: what the sheet knows of the stripe's journal. It belongs behind the stripe's lock. What a
-/// contract sees of it is the stripe's number, and the journal: all that was ever booked into the stripe. The journal
-/// has no bytes.
+/// A stripe's keeper: what the sheet knows of the stripe's journal. It belongs behind the stripe's lock. Its view is
+/// the stripe's number, and the journal: all that was ever booked into the stripe. The journal takes no bytes.
 #[derive(Drop)]
 pub struct Keeper<N: Books> {
     pub(crate) token: Token,

@@ -1,9 +1,9 @@
 //! Shares that add up: what several threads booked into stripes behind locks, taken together, is what the stripes'
 //! journals have, for every order of the threads' steps.
 //!
-//! A sheet knows nothing of locks and tables. It gives a keeper for each stripe, to be put behind that stripe's lock,
-//! and a share, which is split among the threads that book. `OpenSheet::note` notes what was booked, with a share and a
-//! keeper in hand.
+//! A sheet knows nothing of locks and tables. It gives a keeper for each stripe, which goes behind that stripe's lock,
+//! and a share, which is split among the threads that book. `OpenSheet::note` records what was booked, given a share
+//! and a keeper.
 //!
 //! ```ignore
 //! let (sheet, mut opening) = sheet.open::<N>();

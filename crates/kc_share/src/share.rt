@@ -6,12 +6,12 @@ use crate::books::Books;
 use crate::sheet_rule::Token;
 use std::marker::{Model, PhantomData};
 
-/// How many stripes there are at most.
-pub(crate) const MOST: usize = 64;
+/// The greatest number of stripes.
+pub(crate) const MAX_STRIPES: usize = 64;
 
-/// A share of the sheet: how much one worker has booked in each stripe, and how many of the sheet's parts it has. What
-/// a contract sees of it is a `ShareSeen`: the plan of its sheet, its parts, and the list of all that was booked with
-/// it. That list has no bytes.
+/// A share of the sheet: how much one worker has booked in each stripe, and how many of the sheet's parts it has. Its
+/// view is a `ShareSeen`: the plan of its sheet, its parts, and the list of all that it booked. That list takes no
+/// bytes.
 #[derive(Drop)]
 pub struct Share<N: Books> {
     pub(crate) token: Token,
@@ -48,7 +48,7 @@ impl<N: Books> Share<N> {
         self.parts
     }
 
-    /// How many words it booked into a stripe. The stripe's number is below the number of stripes.
+    /// How many words it booked into a stripe. Condition: the stripe's number is below the number of stripes.
     pub fn words(&self, stripe: u32) -> u64
         requires { stripe < self.now.plan.stripes }
         ensures { result ≡ word_total_in stripe self.now.booked }
@@ -56,7 +56,7 @@ impl<N: Books> Share<N> {
         self.words[stripe as usize]
     }
 
-    /// How many batches it booked into a stripe. The stripe's number is below the number of stripes.
+    /// How many batches it booked into a stripe. Condition: the stripe's number is below the number of stripes.
     pub fn entries(&self, stripe: u32) -> u64
         requires { stripe < self.now.plan.stripes }
         ensures { result ≡ entry_total_in stripe self.now.booked }

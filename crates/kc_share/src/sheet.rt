@@ -11,8 +11,8 @@ use crate::sheet_rule::{FirstKept, SheetTable, Token};
 use std::alloc::{AllocError, Global};
 use std::marker::{Model, PhantomData};
 
-/// The sheet of a run, the account that all shares keep together, before it has a name. What a contract sees of it is
-/// its atomic table, and its plan.
+/// The sheet of a run, the account that all shares keep together, before it has a name. Its view is its atomic table,
+/// and its plan.
 #[derive(Drop)]
 pub struct Sheet {
     table: SheetTable,
@@ -39,9 +39,9 @@ impl Model for Sheet {
 }
 
 impl Sheet {
-    /// Makes a sheet for so many stripes, whose first share has so many parts.
+    /// Makes a sheet for so many stripes, with a first share of so many parts.
     ///
-    /// There are 1 to 64 stripes, and at least one part. Fails only where there is no memory.
+    /// Conditions: there are 1 to 64 stripes, and at least one part. Fails only if there is no memory.
     pub fn new(alloc: Global, stripes: u32, parts: u64) -> Result<Sheet, AllocError>
         requires stripes { (1 ≤ stripes) × (stripes ≤ 64) }
         requires parts { 1 ≤ parts }
@@ -76,8 +76,8 @@ impl Sheet {
     }
 }
 
-/// A sheet while its keepers are made, one for each stripe in order. What a contract sees of it is its plan, and the
-/// number of the stripe whose keeper is made next.
+/// A sheet while its keepers are made, one for each stripe in order. Its view is its plan, and the number of the stripe
+/// whose keeper is made next.
 #[derive(Drop)]
 pub struct Opening<N: Books> {
     token: Token,
@@ -103,8 +103,8 @@ impl<N: Books> Model for Opening<N> {
         × (0 < o.plan.parts) };
 }
 
-/// A sheet under its name, by which its shares and keepers take their steps. Threads share it by reference. What a
-/// contract sees of it is its plan.
+/// A sheet under its name, which its shares and keepers use for their steps. Threads share it by reference. Its view is
+/// its plan.
 #[derive(Drop)]
 pub struct OpenSheet<N: Books> {
     pub(crate) table: SheetTable,
@@ -123,7 +123,7 @@ impl<N: Books> Model for OpenSheet<N> {
 }
 
 impl<N: Books> OpenSheet<N> {
-    /// Makes the next stripe's keeper, with an empty journal. There is a stripe left.
+    /// Makes the next stripe's keeper, with an empty journal. Condition: there is a stripe left.
     pub fn next_keeper(&self, opening: &mut Opening<N>) -> Keeper<N>
         requires { opening.old.next < opening.old.plan.stripes }
         ensures keeper { result ≡ kept_stripe opening.old.next [] }
@@ -140,7 +140,7 @@ impl<N: Books> OpenSheet<N> {
         }
     }
 
-    /// Makes the first share, which has all parts, once each stripe has its keeper.
+    /// Makes the first share, which has all parts, after each stripe has its keeper.
     pub fn first_share(&self, opening: Opening<N>) -> Share<N>
         requires { opening.next ≡ opening.plan.stripes }
         ensures { result ≡ share_of opening.plan opening.plan.parts [] }

@@ -1,11 +1,11 @@
-//! The steps by which shares and keepers change: a share is split or joined, a batch is noted, a journal looked at.
+//! The steps by which shares and keepers change: a share is split or joined, a batch is noted, a journal is looked at.
 ghost use Rattle.std.specs.Prelude.{◌≡◌, ℕ, ◌+◌, ◌^◌, ◌<◌, ◌≤◌, length, slice_index};
 ghost use Rattle.kc_share.specs.Entries.{entry_of, entries_in, word_total, AreSame, AreAmong};
 ghost use Rattle.kc_share.specs.Share.{with_entry, with_booking, with_one_part_less, new_share, joined_shares};
 
 use crate::books::Books;
 use crate::keeper::Keeper;
-use crate::share::{MOST, Share};
+use crate::share::{MAX_STRIPES, Share};
 use crate::sheet::OpenSheet;
 use crate::sheet_rule::{Book, Event, FirstKept, Look, OnePart, Together, Whole};
 use kc_word::Batch;
@@ -15,7 +15,7 @@ use std::marker::{Brand, PhantomData};
 const PARTS: usize = 0;
 
 impl<N: Books> OpenSheet<N> {
-    /// Splits one part off a share that has two or more. Answers a share with that part, which has booked nothing.
+    /// Splits one part off a share that has two or more. Returns a share with that part, which has booked nothing.
     /// Takes no memory.
     pub fn split(&self, share: &mut Share<N>) -> Share<N>
         requires { 2 ≤ share.old.parts }
@@ -33,8 +33,8 @@ impl<N: Books> OpenSheet<N> {
         }
     }
 
-    /// Joins two shares: their parts and numbers are added up, and what one booked is behind what the other did.
-    /// Takes no memory.
+    /// Joins two shares: their parts and numbers are added up, and the bookings of one follow those of the other. Takes
+    /// no memory.
     pub fn join(&self, share: &mut Share<N>, other: Share<N>)
         ensures { share.new ≡ joined_shares share.old other }
     {
@@ -53,10 +53,10 @@ impl<N: Books> OpenSheet<N> {
         add_each(&mut share.entries, &entries);
     }
 
-    /// Notes that a batch was booked into the stripe of a keeper: writes it into the keeper's journal and into the
-    /// share, with how many words it has there. Takes no memory.
+    /// Notes that a batch was booked into the stripe of a keeper: records it in the keeper's journal and in the share,
+    /// with the number of its words there. Takes no memory.
     ///
-    /// The words and the entries of the journal stay below 2^64.
+    /// Condition: the words and the entries of the journal stay below 2^64.
     pub fn note(&self, share: &mut Share<N>, keeper: &mut Keeper<N>, batch: &Batch, words: u64)
         requires words { word_total keeper.old.journal + words < 2 ^ 64 }
         requires entries { length keeper.old.journal + 1 < 2 ^ 64 }
@@ -66,7 +66,7 @@ impl<N: Books> OpenSheet<N> {
         self.note_as::<Brand>(share, keeper, batch, words);
     }
 
-    // Notes a booking. Its entry is a type, since what an atomic step tells can't take a value.
+    // Notes a booking. Its entry is a type, since the statement of an atomic step can't take a value.
     fn note_as<E: Event>(
         &self,
         share: &mut Share<N>,
@@ -82,7 +82,7 @@ impl<N: Books> OpenSheet<N> {
     {
         let stripe = keeper.stripe as usize;
         let shared = &self.table.shared;
-        // The share takes the keeper's view in, so that one atomic step is about both, and gives it back.
+        // The share takes the keeper's view, so that one atomic step is about both, and gives it back.
         let all = shared.split_seat::<Whole>(&mut keeper.token);
         shared.join_seat::<Together>(&mut share.token, all);
         shared.load::<Book<E>>(&mut share.token, PARTS);
@@ -91,8 +91,8 @@ impl<N: Books> OpenSheet<N> {
         share.entries[stripe] += 1;
     }
 
-    /// Tells what a keeper's journal has to do with a share: what was booked with the share into the keeper's stripe is
-    /// among the journal's entries, each as often; and where the share has all parts, it is all of them.
+    /// Relates a keeper's journal to a share: what the share booked into the keeper's stripe is among the journal's
+    /// entries, each as often; and if the share has all parts, it is all of them.
     pub fn look(&self, share: &mut Share<N>, keeper: &mut Keeper<N>)
         ensures share { share.new ≡ share.old }
         ensures keeper { keeper.new ≡ keeper.old }
@@ -101,7 +101,7 @@ impl<N: Books> OpenSheet<N> {
             → AreSame (entries_in keeper.old.stripe share.old.booked) keeper.old.journal }
     {
         let shared = &self.table.shared;
-        // As in a booking, the share takes the keeper's view in, and gives it back.
+        // As in a booking, the share takes the keeper's view, and gives it back.
         let all = shared.split_seat::<Whole>(&mut keeper.token);
         shared.join_seat::<Together>(&mut share.token, all);
         shared.load::<Look>(&mut share.token, PARTS);
@@ -116,7 +116,7 @@ fn add_each(numbers: &mut [u64; 64], others: &[u64; 64])
     ensures { (stripe : ℕ) → stripe < 64
         → slice_index numbers.new stripe ≡ slice_index numbers.old stripe + slice_index others.now stripe }
 {
-    for stripe in 0..MOST {
+    for stripe in 0..MAX_STRIPES {
         numbers[stripe] += others[stripe];
     }
 }

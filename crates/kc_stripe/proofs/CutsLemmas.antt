@@ -22,7 +22,7 @@ use Rattle.kc_booking.specs.Stripe.{StripeState}
 use Rattle.kc_booking.proofs.Parts.{map-map}
 use Rattle.kc_stripe.specs.Locked.{cut_entry, journal_entries, with_bookings, with_entries, IsOnSheet}
 
--- ---- one cut more
+-- ---- one more cut
 
 pub with_bookings-push : (share : ShareSeen) (cuts : List StripeCut) (cut : StripeCut)
     → with_bookings share (cuts ++ cut ∷ []) ≡ with_booking (with_bookings share cuts) cut.stripe (cut_entry cut)
@@ -35,7 +35,7 @@ kept_by_bookings : (share : ShareSeen) (cuts : List StripeCut)
 kept_by_bookings share [] = (refl, refl)
 kept_by_bookings share (cut ∷ cuts) = kept_by_bookings (with_booking share cut.stripe (cut_entry cut)) cuts
 
--- also where they may be refused
+-- also if they may be refused
 pub kept_by_booking : {T E : Type 0} (result : Result T E) (share new : ShareSeen) (cuts : List StripeCut) → OnOk result (new ≡ with_bookings share cuts)
     → OnErr result (new ≡ share) → (new.parts ≡ share.parts) × (new.plan ≡ share.plan)
 kept_by_booking (Ok x) share new cuts booked refused =
@@ -94,7 +94,7 @@ module _ {round : RoundCut} {i : ℕ} {batch : NumberedPieces} {words : ℕ} (no
   pub entry_is : entry_of batch words ≡ cut_entry cut_of
   entry_is = ap (entry_of batch) words_of_cut
 
-  -- its words have room where those of the whole round have
+  -- its words have room if those of the whole round have
   pub noted_has_room : (it : KeptStripe) → word_total it.journal + length (all_keys_of round) < 2 ^ 64
       → word_total (with_entries it (take i (cuts_in round))).journal + words < 2 ^ 64
   noted_has_room it room =
@@ -107,7 +107,7 @@ module _ {round : RoundCut} {i : ℕ} {batch : NumberedPieces} {words : ℕ} (no
         length-flat_map-take keys_of (cuts_in round) i cut_of cut_within,
       )
 
-  -- and so has one entry more
+  -- and so has one more entry
   pub one_more_has_room : (it : KeptStripe) → length it.journal + length round.batches < 2 ^ 64
       → length (with_entries it (take i (cuts_in round))).journal + 1 < 2 ^ 64
   one_more_has_room it room =

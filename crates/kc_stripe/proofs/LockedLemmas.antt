@@ -34,7 +34,7 @@ module _ {C : Type 0} (old : StripeState C) (it : KeptStripe) (on_sheet : IsOnSh
   pub entries_have_room : length old.journal + 1 < 2 ^ 64 → length it.journal + 1 < 2 ^ 64
   entries_have_room few = omega (arith, ap length on_sheet.journal, length-journal_entries old.setup old.number old.journal, few)
 
-  -- a batch more
+  -- one more batch
   pub booked_on_sheet : (new : StripeState C) (cut : StripeCut) → IsOwnCut old cut → new.setup ≡ old.setup → new.number ≡ old.number → new.journal ≡ old.journal ++ cut.batch ∷ []
       → new.total ≡ old.total + length (keys_of cut) → new.total ≤ 2 ^ 62 → IsOnSheet new (with_entry it (cut_entry cut))
   booked_on_sheet new cut own setup number journal total few =
@@ -59,7 +59,7 @@ module _ {C : Type 0} (old : StripeState C) (it : KeptStripe) (on_sheet : IsOnSh
         batches = same';
       }
 
-  -- what a share booked into the stripe stands in its journal
+  -- what a share booked into the stripe is in its journal
   pub named-from_among : AmongIsThere → (booked : List Booking) → AreAmong (entries_in it.stripe booked) it.journal → AreNamed old.number booked old.journal
   named-from_among law booked among entry booked_here =
       let here : Contains (entries_in it.stripe booked) entry = subst (λ (n : ℕ). Contains (entries_in n booked) entry) (sym on_sheet.number) booked_here in

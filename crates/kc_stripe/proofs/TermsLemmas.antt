@@ -98,12 +98,12 @@ own_or_not {C} old round = by (is_same_setup round.setup old.setup) refl
         (eqb_tells round.stripe old.number)
     by false is = inr (λ own. let both : true ≡ false = sym ((is_same_setup-Decides round.setup old.setup).1 own.0) ∙ is in absurd (cc))
 
--- where there are batches and the first isn't booked, it is new
+-- if there are batches and the first isn't booked, it is new
 first_is_new : (journal batches : List NumberedPieces) → batches ≢ [] → ¬ FirstIsBooked journal batches → FirstIsNew journal batches
 first_is_new journal [] some new = absurd (some refl)
 first_is_new journal (batch ∷ batches) some new = new
 
--- where one of these keys may be full, in whatever order they are counted, the terms allow it for that key
+-- if one of these keys may be full, in whatever order they are counted, the terms allow it for that key
 some_key : {C : Type 0} (allowed : KeyCounts → ℕ → Type 0) (may_be_full : C → KeyCounts → ℕ → Type 0) (table : C) (counts : KeyCounts) (keys : List ℕ)
     → IsFullOnlyWhere allowed (may_be_full table) → SomeMayBeFullInSomeOrder (may_be_full table) counts keys → SomeKeyMayBeFull allowed keys
 some_key {C} allowed may_be_full table counts keys limits (order, same, (i, within, full)) =
@@ -162,7 +162,7 @@ module _ {C : Type 0} (may_be_booked : NumberedPieces → Type 0) (allowed : Key
       (λ both. own both.1)
       large_or_full)
 
-  -- after a booking the same stands behind the lock
+  -- after a booking, the same holds behind the lock
   pub booked_locked : (new : StripeState C) (after : KeptStripe) (more : List NumberedPieces) → IsOnSheet new after → new.journal ≡ old.journal ++ more
       → All may_be_booked more → ((counts : KeyCounts) (key : ℕ) → may_be_full new.table counts key ↔ may_be_full old.table counts key)
       → IsLocked may_be_booked allowed may_be_full new after

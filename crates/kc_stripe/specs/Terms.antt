@@ -4,19 +4,19 @@ use Rattle.kc_word.specs.Cutting.{NumberedPieces}
 use Rattle.kc_table.specs.Counts.{KeyCounts}
 use Rattle.kc_booking.specs.Stripe.{NumbersDiffer, position_sum}
 
--- batches with different numbers that may be booked have more than 2 ^ 62 positions together
+-- some batches with different numbers that may be booked have more than 2 ^ 62 positions together
 pub record MayBeTooMany (k : ℕ) (may_be_booked : NumberedPieces → Type 0) : Type 0 where
   pub batches : List NumberedPieces
   pub differ : NumbersDiffer batches
   pub booked : All may_be_booked batches
   pub many : 2 ^ 62 < position_sum k batches
 
--- one of the tables may be full in these counts for this key
+-- one of the tables may be full for this key at these counts
 abbrev pub SomeTableMayBeFull : {C : Type 0} → (C → KeyCounts → ℕ → Type 0) → List C → KeyCounts → ℕ → Type 0
 SomeTableMayBeFull {C} may_be_full tables counts key =
     (table : C) × Contains tables table × may_be_full table counts key
 
--- there are counts in which a table may be full for one of the keys
+-- at some counts a table may be full for one of the keys
 abbrev pub SomeKeyMayBeFull : (KeyCounts → ℕ → Type 0) → List ℕ → Type 0
 SomeKeyMayBeFull may_be_full keys = (counts : KeyCounts) × (key : ℕ) × Contains keys key × may_be_full counts key
 

@@ -1,5 +1,5 @@
-//! The stripes of a count, each behind a lock of its own, which threads share: what was booked with the shares is,
-//! taken together, what the stripes' journals have.
+//! The stripes of a count, each behind a lock of its own, which threads share: what was booked with the shares, taken
+//! together, is what the stripes' journals have.
 //!
 //! [`Stripes`] books the cuts of `kc_booking`, of one batch or of several at once, returns what was counted so far of a
 //! word ([`Seen`]), and gives the plain stripes back at the end.

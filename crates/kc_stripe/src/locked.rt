@@ -1,4 +1,4 @@
-//! A stripe together with its keeper, as they lie behind the stripe's lock.
+//! A stripe together with its keeper, behind the stripe's lock.
 ghost use Rattle.std.specs.Prelude.{◌≡◌, ◌+◌, ◌<◌, ◌≤◌, ◌^◌, ◌↔◌, ◌⊎◌, ◌++◌, ◌∷◌, [], length, All};
 ghost use Rattle.std.specs.Prelude.{IfOk, IsOk, OnOk, OnErr};
 ghost use Rattle.kc_share.specs.Share.{with_booking};
@@ -39,7 +39,7 @@ impl<C: Counts, N: Terms> Model for Locked<C, N> {
 }
 
 impl<C: Counts, N: Terms> Locked<C, N> {
-    /// Books a batch that may be booked into the stripe, and into a share. A refused booking leaves both as they were.
+    /// Books a batch that may be booked into the stripe, and into a share. A refused booking leaves both unchanged.
     pub(crate) fn book(
         &mut self,
         sheet: &OpenSheet<N>,
@@ -60,7 +60,7 @@ impl<C: Counts, N: Terms> Locked<C, N> {
             ⊎ SomeKeyMayBeFull N.may_be_full (keys_of cut.now) }
         ensures memory { result ≡ Err BookFault.Memory → self.old.total + length (keys_of cut.now) ≤ 2 ^ 62 }
     {
-        // For the proof: no number occurs twice in the journal.
+        // For the proof: the batches of the journal have different numbers.
         self.stripe.is_lawful();
         self.stripe.book(cut)?;
         sheet.note(
@@ -73,7 +73,7 @@ impl<C: Counts, N: Terms> Locked<C, N> {
     }
 
     /// Books several batches that may be booked into the stripe, and into a share, all or none. It returns how many
-    /// slots the stripe's table has then. A refused booking leaves both as they were.
+    /// slots the stripe's table then has. A refused booking leaves both unchanged.
     pub(crate) fn book_all(
         &mut self,
         sheet: &OpenSheet<N>,
@@ -108,10 +108,10 @@ impl<C: Counts, N: Terms> Locked<C, N> {
         Ok(self.stripe.slots())
     }
 
-    /// What the stripe returns for a word, where it is the one in which the word counts: it has this setup, and the
-    /// number of the word's stripe.
+    /// What the stripe knows of a word, if the word counts in it: it has this setup, and the number of the word's
+    /// stripe.
     ///
-    /// The word is below 4^k. A look books nothing, so it is refused only where the stripe is another one, or for
+    /// Condition: the word is below 4^k. A look books nothing, so it is refused only for another stripe, or for lack of
     /// memory.
     pub(crate) fn look(
         &mut self,
@@ -137,7 +137,7 @@ impl<C: Counts, N: Terms> Locked<C, N> {
         if self.stripe.setup() != setup || self.stripe.number() != number {
             return Err(BookFault::Stranger);
         }
-        // What was booked with the share is in the journal.
+        // What the share booked is in the journal.
         sheet.look(share, &mut self.keeper);
         share_laws::among_is_there();
         let seen = Seen::of(alloc, &self.stripe, word)?;

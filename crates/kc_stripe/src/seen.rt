@@ -1,4 +1,4 @@
-//! The answer of a look: how often a word was counted so far, and in which batches.
+//! The result of a look: how often a word was counted so far, and in which batches.
 ghost use Rattle.std.specs.Prelude.{◌≡◌, ◌<◌, IfOk};
 ghost use Rattle.kc_word.specs.Shared.{values};
 ghost use Rattle.kc_booking.specs.Setup.{word_count};
@@ -11,8 +11,8 @@ use std::alloc::{AllocError, Global};
 use std::marker::Model;
 use std::sync::Arc;
 
-/// How often a word occurs, in the form under which it counts, and in which batches: all that were booked in the stripe
-/// of that form.
+/// How often a word occurs, in the form under which it counts, and in which batches: all that were booked into the
+/// stripe of that form.
 #[derive(Drop)]
 pub struct Seen {
     setup: Setup,
@@ -38,7 +38,7 @@ impl Model for Seen {
 }
 
 impl Seen {
-    // The answer of a word's stripe: the count of its form, and the batches of the journal.
+    // The result for a word's stripe: the count of its form, and the batches of the journal.
     pub(crate) fn of<C: Counts>(
         alloc: Global,
         stripe: &Stripe<C>,
@@ -50,7 +50,7 @@ impl Seen {
         ensures word { IfOk result (λ seen. seen.word ≡ word.0) }
         ensures batches { IfOk result (λ seen. seen.batches ≡ stripe.now.journal) }
     {
-        // No number occurs twice in its journal.
+        // The batches of its journal have different numbers.
         stripe.is_lawful();
         let count = stripe.count_of(stripe.setup().form_of(word));
         let batches = clones_of(alloc, stripe.journal())?;

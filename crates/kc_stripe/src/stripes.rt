@@ -21,9 +21,9 @@ use std::alloc::{AllocError, Global};
 use std::marker::Model;
 use std::sync::{Mutex, Wait};
 
-/// The stripes of a count, each behind a lock of its own. Threads share them by reference, and book with a share each.
-/// Whoever gets a lock finds a lawful stripe, whatever others did, in which only batches were booked that N allows; and
-/// what was booked with the shares, taken together, is what the stripes' journals have.
+/// The stripes of a count, each behind a lock of its own. Threads share them by reference, and each books with a share.
+/// Whoever gets a lock finds a lawful stripe, whatever others did, with only batches that N allows; and what was booked
+/// with the shares, taken together, is what the stripes' journals have.
 #[derive(Drop)]
 pub struct Stripes<C: Counts, N: Terms> {
     setup: Setup,
@@ -44,10 +44,10 @@ impl<C: Counts, N: Terms> Model for Stripes<C, N> {
 }
 
 impl<C: Counts + Drop, N: Terms> Stripes<C, N> {
-    /// Stripes in which nothing was booked, and the first share, which has all parts of the sheet.
+    /// Stripes without batches, and the first share, which has all parts of the sheet.
     ///
-    /// The sheet's name is N, and it is for as many stripes as the setup has. There is a table for each stripe, with
-    /// nothing stored and keys of the setup's `key_bits`, which may be full only where N allows it.
+    /// Conditions: the sheet's name is N, and it is for as many stripes as the setup has. There is a table for each
+    /// stripe, with nothing stored and keys of the setup's `key_bits`, which may be full only if N allows it.
     pub fn new(
         alloc: Global,
         setup: &Setup,
@@ -79,8 +79,8 @@ impl<C: Counts + Drop, N: Terms> Stripes<C, N> {
         Ok((stripes, share))
     }
 
-    /// Ends the sharing: the stripes, in the order of their locks. Where the share is the whole, what was booked with
-    /// it is all that the stripes have.
+    /// Ends the sharing: the stripes, in the order of their locks. If the share is the whole, what it booked is all
+    /// that the stripes have.
     pub fn into_stripes(
         self,
         alloc: Global,
@@ -99,7 +99,7 @@ impl<C: Counts + Drop, N: Terms> Stripes<C, N> {
         let mut stripes = Vec::with_capacity(alloc, locks.len())?;
         for lock in locks {
             let Locked { stripe, mut keeper } = lock.into_inner();
-            // For the proof: what was booked with the share is all of the stripe, where the share has all parts.
+            // For the proof: if the share has all parts, what it booked is all of the stripe.
             sheet.look(&mut share, &mut keeper);
             stripes.push(stripe)?;
         }
@@ -115,7 +115,7 @@ impl<C: Counts, N: Terms> Stripes<C, N> {
         &self.setup
     }
 
-    /// Splits one part off a share that has two or more. Answers a share with that part, which has booked nothing.
+    /// Splits one part off a share that has two or more. Returns a share with that part, which has booked nothing.
     /// Takes no memory.
     pub fn split(&self, share: &mut Share<N>) -> Share<N>
         requires { 2 ≤ share.old.parts }
@@ -125,8 +125,8 @@ impl<C: Counts, N: Terms> Stripes<C, N> {
         self.sheet.split(share)
     }
 
-    /// Joins two shares: their parts and numbers are added up, and what one booked is behind what the other did.
-    /// Takes no memory.
+    /// Joins two shares: their parts and numbers are added up, and the bookings of one follow those of the other. Takes
+    /// no memory.
     pub fn join(&self, share: &mut Share<N>, other: Share<N>)
         ensures { share.new ≡ joined_shares share.old other }
     {
@@ -135,9 +135,9 @@ impl<C: Counts, N: Terms> Stripes<C, N> {
 
     /// Books a batch into the stripe of its cut, under that stripe's lock, and into a share.
     ///
-    /// The cut's stripe is one of these, and its batch may be booked. A refused booking leaves the share as it was.
-    /// `Full` comes only where batches that may be booked have more than 2^62 positions, or a table may be full for one
-    /// of the keys.
+    /// Conditions: the cut's stripe is one of these, and its batch may be booked. A refused booking leaves the share
+    /// unchanged. `Full` comes only if batches that may be booked have more than 2^62 positions, or a table may be full
+    /// for one of the keys.
     pub fn book<R: Wait>(&self, rt: &R, share: &mut Share<N>, cut: &Cut) -> Result<(), BookFault>
         requires stripe { cut.now.stripe < stripe_count self.now.setup }
         requires allowed { N.may_be_booked cut.now.batch }
@@ -151,14 +151,15 @@ impl<C: Counts, N: Terms> Stripes<C, N> {
             .book(&self.sheet, share, cut)
     }
 
-    /// Books several batches into one stripe by one call, under that stripe's lock, and into a share, all or none. The
-    /// share has a booking more for each batch, in their order.
+    /// Books several batches into one stripe with one call, under that stripe's lock, and into a share, all or none.
+    /// The share gets one booking for each batch, in order.
     ///
-    /// It returns how many slots the stripe's table has then: for speed alone, as no clause can state it behind a lock.
+    /// It returns how many slots the stripe's table then has. That matters only for speed; no clause can state it
+    /// behind a lock.
     ///
-    /// The stripe of the cuts is one of these, and their batches may be booked. A refused booking leaves the share as
-    /// it was. A round of no batches is never refused. `Full` comes only where batches that may be booked have more
-    /// than 2^62 positions, or a table may be full for one of the keys.
+    /// Conditions: the stripe of the cuts is one of these, and their batches may be booked. A refused booking leaves
+    /// the share unchanged. A round of no batches is never refused. `Full` comes only if batches that may be booked
+    /// have more than 2^62 positions, or a table may be full for one of the keys.
     pub fn book_all<R: Wait>(
         &self,
         rt: &R,
@@ -183,8 +184,8 @@ impl<C: Counts, N: Terms> Stripes<C, N> {
     /// How often a word occurs in the batches that were booked, and in which: all that are in the stripe of the form
     /// under which the word counts, under that stripe's lock.
     ///
-    /// The word is below 4^k. Each batch that the share booked into that stripe is among them. A look books nothing, so
-    /// it is never refused as twice or full.
+    /// Condition: the word is below 4^k. Each batch that the share booked into that stripe is among them. A look books
+    /// nothing, so it is never refused as twice or full.
     pub fn look<R: Wait>(
         &self,
         rt: &R,

@@ -1,10 +1,10 @@
-//! The terms on which batches are booked: which batches, and where a table may be full.
+//! The terms on which batches are booked: which batches, and when a table may be full.
 
 use kc_share::Books;
 use std::marker::Brand;
 
-/// The terms of the stripes whose sheet has this name: what is behind each of their locks, whoever booked there
-/// before. Whoever opens the sheet takes `Brand`, and picks them; where nothing is picked, all is allowed.
+/// The terms of the stripes whose sheet has this name: they hold behind each of their locks, whoever booked there
+/// before. Whoever opens the sheet takes `Brand`, and picks them; by default all is allowed.
 pub trait Terms: Books {
     ghost use Rattle.std.specs.Prelude.{ℕ};
     ghost use Rattle.kc_word.specs.Cutting.{NumberedPieces};

@@ -18,11 +18,11 @@ pub(crate) struct Held<'a> {
     pub(crate) total: u64,
     // the bins 1 to 3
     pub(crate) bins: [u64; 3],
-    // the words whose count is not 0, each with its count
+    // the words with a count above 0, each with its count
     pub(crate) counts: &'a [(u64, u64)],
 }
 
-// How often a word was counted, among the words whose count is not 0.
+// How often a word was counted, among the words with a count above 0.
 fn count_among(counts: &[(u64, u64)], word: u64) -> u64 {
     for (counted, count) in counts {
         if *counted == word {
@@ -68,7 +68,7 @@ pub(crate) fn assert_held<C: Counts>(rt: &impl Abort, stripe: &Stripe<C>, held: 
     assert_counts(rt, stripe, held.counts);
 }
 
-// The greatest of these counts, 0 where there is none.
+// The greatest of these counts, 0 if there is none.
 fn greatest_among(counts: &[(u64, u64)]) -> u64 {
     let mut greatest: u64 = 0;
     for (_, count) in counts {
@@ -99,7 +99,7 @@ const BOTH: Held<'static> = Held {
     counts: &[(0, 3)],
 };
 
-// The number of a cut that is booked, what is answered, and what the stripe then holds.
+// The number of a cut that is booked, what is returned, and what the stripe then holds.
 type Step = (usize, Result<(), BookFault>, Held<'static>);
 
 const STEPS: &[Step] = &[
@@ -211,7 +211,7 @@ const ONE_WORD: Held<'static> = Held {
 // Three words, and one word.
 const THREE_AND_ONE: &[&[u8]] = &[b"ACGTA", b"ACG"];
 
-// A stripe over a table that takes so many keys, and refuses a further one like this.
+// A stripe over a table that takes so many keys, and refuses a further one with this fault.
 fn stripe_of_keys(
     alloc: Global,
     keys: u64,
@@ -233,7 +233,7 @@ pub(crate) fn limited_stripe(
     stripe_of_keys(alloc, 2, refusal)
 }
 
-// The stripe refuses a cut of three words so, and then takes one of one word.
+// The stripe refuses a cut of three words with this fault, and then takes one of one word.
 fn refuses_three(
     rt: &impl Abort,
     alloc: Global,
@@ -250,7 +250,7 @@ fn refuses_three(
     )
 }
 
-// The stripe refuses the first of two cuts so, and then takes the second.
+// The stripe refuses the first of two cuts with this fault, and then takes the second.
 fn refuses_first(
     rt: &impl Abort,
     alloc: Global,
@@ -265,7 +265,7 @@ fn refuses_first(
     Ok(())
 }
 
-// The empty stripe refuses a cut so, and is then empty.
+// The empty stripe refuses a cut with this fault, and is still empty.
 fn assert_refused(
     rt: &impl Abort,
     alloc: Global,

@@ -26,7 +26,7 @@ struct Stranger<'a> {
     number: usize,
 }
 
-// The bases of the count, and bases of which no batch is the same.
+// The bases of the count, and bases that share no batch with them.
 const BASES: &[u8] = b"AACGTTACG";
 
 const OTHER_BASES: &[u8] = b"TTGCAATGC";
@@ -79,12 +79,12 @@ fn refusal_of<H: Threads + Sync>(
     match wanted {
         Wanted::Rows(threads) => gather_by(rt, threads, alloc, setup, stripes, batches).err(),
         Wanted::Numbers(threads) => {
-            Numbers::gathered(rt, alloc, threads.max(1), stripes, batches, setup).err()
+            Numbers::gather(rt, alloc, threads.max(1), stripes, batches, setup).err()
         }
     }
 }
 
-// Asserts that the stripe at this place is told as foreign, whatever is gathered.
+// Asserts that the stripe at this place is reported as foreign, whatever is gathered.
 fn assert_foreign<H: Threads + Sync + Abort>(
     rt: &H,
     alloc: Global,

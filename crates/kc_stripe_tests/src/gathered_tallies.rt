@@ -1,4 +1,4 @@
-//! Seeded reads, whose words are counted in stripes, and by the slow tally.
+//! Seeded reads: their words are counted in stripes, and by the slow tally.
 ghost use Rattle.std.specs.Prelude.{◌≤◌};
 ghost use Rattle.kc_tally.specs.Histogram.{last_bin};
 
@@ -81,7 +81,7 @@ pub(crate) fn slow_rows(
     Ok(pairs)
 }
 
-// The words and the counts of the rows come behind the others.
+// The words and the counts of the rows follow the others.
 fn add_pairs(pairs: &mut Vec<(u64, u64)>, rows: &[Row]) -> Result<(), AllocError> {
     for row in rows {
         pairs.push((row.word, row.count))?;
@@ -89,7 +89,7 @@ fn add_pairs(pairs: &mut Vec<(u64, u64)>, rows: &[Row]) -> Result<(), AllocError
     Ok(())
 }
 
-// Puts the words and counts of a stripe's rows behind the pairs.
+// Appends the words and counts of a stripe's rows to the pairs.
 fn add_rows<C: Counts>(
     alloc: Global,
     pairs: &mut Vec<(u64, u64)>,
@@ -108,13 +108,13 @@ pub(crate) fn sorted_rows<C: Counts>(
     for stripe in stripes {
         add_rows(alloc, &mut rows, stripe)?;
     }
-    // no word stands in two stripes
+    // no word is in two stripes
     rows.sort_unstable();
     Ok(rows)
 }
 
 // So many indices, each once, in another order.
-fn shuffled(alloc: Global, count: usize) -> Result<Vec<(u64, u64)>, AllocError> {
+fn shuffled_order(alloc: Global, count: usize) -> Result<Vec<(u64, u64)>, AllocError> {
     let mut order = Vec::new(alloc);
     for index in 0..count as u64 {
         order.push((index.wrapping_mul(0x9e37_79b9_7f4a_7c15), index))?;
@@ -148,7 +148,7 @@ fn book_everywhere<C: Counts>(
     reads: &[SeqRead],
 ) -> Result<(), Fail> {
     let batches = batches_of(alloc, setup, reads, 7)?;
-    let order = shuffled(alloc, batches.len())?;
+    let order = shuffled_order(alloc, batches.len())?;
     book_in_order(alloc, setup, stripes, &batches, &order)
 }
 

@@ -20,7 +20,7 @@ use std::thread::Threads;
 // Lengths of words, numbers of stripes, and the bits of their keys.
 const TABLES: &[(u32, u32, u32)] = &[(1, 4, 0), (3, 1, 6), (31, 16, 58)];
 
-// The tables are so many, have no row, and take keys of so many bits.
+// There are so many tables, without rows, for keys of so many bits.
 fn assert_tables<C: Counts>(
     rt: &impl Abort,
     alloc: Global,
@@ -99,7 +99,7 @@ fn quotient_tables_begin_with_the_size(rt: HostRuntime) -> Result<(), Fail> {
     Ok(())
 }
 
-// The batches of one read, of so many positions each.
+// The batches of one read, with so many positions each.
 pub(crate) fn batches_of(
     alloc: Global,
     setup: &Setup,
@@ -108,7 +108,7 @@ pub(crate) fn batches_of(
 ) -> Result<Vec<Arc<Batch>>, Fail>
     ensures { IfOk result (λ batches. position_sum setup.now.rule.k (values batches.items) ≤ 2 ^ 62) }
 {
-    // for the proof: what is known of the positions
+    // for the proof: facts about the positions
     cutting_laws::cutting_positions();
     cutting_laws::positions_within_bytes();
     cutting_laws::cleaned_length();
@@ -134,9 +134,9 @@ pub(crate) fn stripes_of(
     Ok(stripes)
 }
 
-// What gathering these stripes answers, where the batches of the read are given: by so many threads, or, if there are
-// none, by `gather`.
-fn gathered<H: Threads + Sync>(
+// The result of gathering these stripes, if the batches of the read are given: by so many threads, or by `gather` if
+// that is 0.
+fn gather_tally<H: Threads + Sync>(
     rt: &H,
     threads: u32,
     alloc: Global,
@@ -152,7 +152,7 @@ fn gathered<H: Threads + Sync>(
     Ok(gather_by(rt, threads, alloc, setup, stripes, &batches))
 }
 
-// What gathering these stripes by so many threads answers, or, if there are none, `gather`.
+// The result of gathering these stripes by so many threads, or by `gather` if that is 0.
 pub(crate) fn gather_by<H: Threads + Sync>(
     rt: &H,
     threads: u32,
@@ -167,7 +167,7 @@ pub(crate) fn gather_by<H: Threads + Sync>(
     if threads == 0 {
         return gather(alloc, stripes, batches, setup);
     }
-    Tally::gathered(rt, alloc, threads, stripes, batches, setup)
+    Tally::gather(rt, alloc, threads, stripes, batches, setup)
 }
 
 // The tally has these rows and no others.
@@ -194,13 +194,13 @@ fn tally_by<H: Threads + Sync>(
     size: u64,
 ) -> Result<Tally, Fail> {
     let stripes = stripes_of(alloc, setup, batches)?;
-    let Ok(tally) = gathered(rt, threads, alloc, setup, stripes, bases, size)? else {
+    let Ok(tally) = gather_tally(rt, threads, alloc, setup, stripes, bases, size)? else {
         return Err(Fail::from("no tally"));
     };
     Ok(tally)
 }
 
-// The bases whose batches are given where those of AAAA were booked, how that is refused, and by how many threads.
+// The bases whose batches are given if those of AAAA were booked, the fault, and how many threads there are.
 const REFUSALS: &[(&[u8], GatherFault, u32)] = &[
     (b"AAAAC", GatherFault::Missing(0, 1), 0),
     (b"CCCCC", GatherFault::Foreign(0), 0),
@@ -224,7 +224,7 @@ fn assert_refusals<H: Threads + Sync + Abort>(
 ) -> Result<(), Fail> {
     for (bases, fault, threads) in REFUSALS {
         let stripes = stripes_of(alloc, setup, booked)?;
-        match gathered(rt, *threads, alloc, setup, stripes, *bases, 2)? {
+        match gather_tally(rt, *threads, alloc, setup, stripes, *bases, 2)? {
             Ok(_) => return Err(Fail::from("a tally")),
             Err(found) => assert_same(rt, "a fault", &found, fault),
         }
@@ -245,7 +245,7 @@ fn the_tally_of_all_stripes(rt: HostRuntime) -> Result<(), Fail> {
     Ok(())
 }
 
-// The tally of these bases, whose batches were booked and are given, has these rows.
+// The tally of these bases has these rows; their batches were booked and are given.
 fn assert_tally<H: Threads + Sync + Abort>(
     rt: &H,
     threads: u32,
@@ -309,7 +309,7 @@ fn gather_by_all<H: Threads + Sync + Abort>(
     Ok(())
 }
 
-// Gathers the words of AAACAAC by so many threads: no other fault is answered than want of memory, and no other tally.
+// Gathers the words of AAACAAC by so many threads: the result is the right tally, or lack of memory.
 fn assert_tally_or_memory<H: Threads + Sync + Abort>(
     rt: &H,
     alloc: Global,
@@ -321,7 +321,7 @@ fn assert_tally_or_memory<H: Threads + Sync + Abort>(
     gather_or_memory(rt, alloc, threads, &setup, &batches)
 }
 
-// Books these batches of AAACAAC and gathers them: their rows, or want of memory.
+// Books these batches of AAACAAC and gathers them: their rows, or lack of memory.
 fn gather_or_memory<H: Threads + Sync + Abort>(
     rt: &H,
     alloc: Global,
@@ -330,7 +330,7 @@ fn gather_or_memory<H: Threads + Sync + Abort>(
     batches: &[Arc<Batch>],
 ) -> Result<(), Fail> {
     let stripes = stripes_of(alloc, setup, batches)?;
-    match gathered(rt, threads, alloc, setup, stripes, b"AAACAAC", 2)? {
+    match gather_tally(rt, threads, alloc, setup, stripes, b"AAACAAC", 2)? {
         Ok(tally) => assert_rows(rt, &tally, &[(0, 1), (1, 2), (4, 1), (16, 1)]),
         Err(fault) => {
             assert_same(rt, "a fault", &fault, &GatherFault::Memory);

@@ -22,7 +22,7 @@ fn list_of(alloc: Global, k: u32, both: bool, texts: &[&[u8]]) -> Result<Arc<Onl
     Ok(Arc::new(alloc, only)?)
 }
 
-// Words of three bases in one stripe, of which those of these reads count.
+// Words of three bases in one stripe; those of these reads count.
 fn listed_setup(alloc: Global, both: bool, texts: &[&[u8]]) -> Result<Setup, Fail> {
     let list = list_of(alloc, 3, both, texts)?;
     let Some(setup) = setup_with(3, both, 1) else {
@@ -47,7 +47,7 @@ const LISTED: &[(bool, &[&[u8]], &[Row])] = &[
 ];
 
 // The stripe of the setup, in which ACGTA is booked.
-fn booked(alloc: Global, setup: &Setup) -> Result<Box<Stripe<PlainCounts>>, Fail> {
+fn booked_stripe(alloc: Global, setup: &Setup) -> Result<Box<Stripe<PlainCounts>>, Fail> {
     let cuts = cuts_in(alloc, setup, b"ACGTA")?;
     let mut stripe = plain_stripe(alloc, setup, 0)?;
     book_at(&mut stripe, &cuts, 0)?;
@@ -74,23 +74,23 @@ fn assert_rows(
 fn listed_words_alone_are_counted(rt: HostRuntime) -> Result<(), Fail> {
     let alloc = rt.alloc();
     for (both, texts, rows) in LISTED {
-        let stripe = booked_by_list(alloc, *both, *texts)?;
+        let stripe = stripe_booked_by_list(alloc, *both, *texts)?;
         assert_rows(&rt, alloc, &stripe, *rows)?;
     }
     Ok(())
 }
 
 // The stripe that is kept to the words of these reads, in which ACGTA is booked.
-fn booked_by_list(
+fn stripe_booked_by_list(
     alloc: Global,
     both: bool,
     texts: &[&[u8]],
 ) -> Result<Box<Stripe<PlainCounts>>, Fail> {
     let setup = listed_setup(alloc, both, texts)?;
-    booked(alloc, &setup)
+    booked_stripe(alloc, &setup)
 }
 
-// The reads of a list, where one is given, and what a stripe that is kept to CGT answers to a cut by it.
+// The reads of a list, if one is given, and what a stripe that is kept to CGT returns to a cut by it.
 const LISTS: &[(Option<&[&[u8]]>, Result<(), BookFault>)] = &[
     (None, Err(BookFault::Stranger)),
     (Some(&[b"ACG"]), Err(BookFault::Stranger)),
@@ -112,7 +112,7 @@ fn cuts_by(alloc: Global, texts: Option<&[&[u8]]>) -> Result<Vec<Cut>, Fail> {
     cuts_in(alloc, &setup, b"ACGTA")
 }
 
-// An empty stripe of the setup answers so to the first of the cuts.
+// An empty stripe of the setup returns so to the first of the cuts.
 fn assert_booking(
     rt: &impl Abort,
     alloc: Global,
@@ -124,7 +124,7 @@ fn assert_booking(
     Ok(())
 }
 
-// The stripe answers so to the first of the cuts.
+// The stripe returns so to the first of the cuts.
 fn assert_answer(
     rt: &impl Abort,
     stripe: &mut Stripe<PlainCounts>,

@@ -64,7 +64,7 @@ fn book_parts<N: Books + Send + Sync, R: Threads + Wait + Sync>(
 }
 
 // The sharing ends: what the stripes and the share have, and the rows.
-fn ended<N: Books>(
+fn sums_and_rows<N: Books>(
     alloc: Global,
     setup: &Setup,
     stripes: Stripes<PlainCounts, Open<N>>,
@@ -90,7 +90,7 @@ fn count_by_many<N: Books + Send + Sync, R: Threads + Wait + Sync>(
 {
     let (stripes, mut whole) = stripes_of::<N>(alloc, setup, sheet)?;
     book_by_many(rt, alloc, &stripes, &mut whole, batches)?;
-    ended(alloc, setup, stripes, whole)
+    sums_and_rows(alloc, setup, stripes, whole)
 }
 
 // Splits a share off for each eight batches, has each part booked by a thread, and joins the shares.
@@ -128,7 +128,7 @@ fn what_eight_threads_booked_is_the_tally(rt: HostRuntime) -> Result<(), Fail> {
     Ok(())
 }
 
-// The rows of these reads, whose batches are booked by eight threads.
+// The rows of these reads, with their batches booked by eight threads.
 fn rows_by_eight<R: Threads + Wait + Abort + Sync>(
     rt: &R,
     alloc: Global,
@@ -144,7 +144,7 @@ fn rows_by_eight<R: Threads + Wait + Abort + Sync>(
     Ok(rows)
 }
 
-// Each of eight stripes has 64 batches, and what the share says of it.
+// Each of eight stripes has 64 batches, and the share has them, too.
 fn assert_sums(rt: &impl Abort, sums: &[Sums]) {
     assert_same(rt, "stripes", &sums.len(), &8);
     for (has, told) in sums {
@@ -206,10 +206,10 @@ fn count_without_one<N: Books + Send + Sync, R: Threads + Wait + Sync>(
 {
     let (stripes, kept) = stripes_of::<N>(alloc, setup, sheet)?;
     let kept = book_without_one(rt, alloc, &stripes, kept, batches)?;
-    ended(alloc, setup, stripes, kept)
+    sums_and_rows(alloc, setup, stripes, kept)
 }
 
-// Books three batches with two shares, of which the first is lost: the share that is left.
+// Books three batches with two shares, of which the first is dropped: the share that is left.
 fn book_without_one<N: Books + Send + Sync, R: Threads + Wait + Sync>(
     rt: &R,
     alloc: Global,
@@ -227,7 +227,7 @@ fn book_without_one<N: Books + Send + Sync, R: Threads + Wait + Sync>(
     Ok(left)
 }
 
-// What the one stripe has, and what the share says of it.
+// What the one stripe has, and what the share has of it.
 const SUMS: &[Sums] = &[((12, 3), (8, 2))];
 
 // AAA twelve times.
@@ -241,7 +241,7 @@ fn a_share_that_is_lost_leaves_the_stripes_lawful(rt: HostRuntime) -> Result<(),
     lose_a_share(&rt, alloc, &setup, &batches)
 }
 
-// What was booked with a lost share stands in the stripe, and the other share tells only what is its own.
+// What a dropped share booked is in the stripe, and the other share has only its own bookings.
 fn lose_a_share<R: Threads + Wait + Abort + Sync>(
     rt: &R,
     alloc: Global,

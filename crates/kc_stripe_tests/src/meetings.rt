@@ -17,14 +17,14 @@ use std::sync::atomic::{AtomicBool, Ordering};
 use std::test::Fail;
 use std::thread::{Threads, join};
 
-// What two tables tell each other: that a key is stored in them, and that they saw the other's flag meanwhile.
+// What two tables exchange: that a key is stored in them, and that they saw the other's flag meanwhile.
 #[derive(Drop)]
 struct Flags {
     raised: (AtomicBool, AtomicBool),
     met: (AtomicBool, AtomicBool),
 }
 
-// A table that raises its flag where a key is stored or counted, and looks for the flag of another one.
+// A table that raises its flag if a key is stored or counted, and looks for the flag of another one.
 #[derive(Drop)]
 struct MeetingCounts<'a> {
     plain: PlainCounts,
@@ -208,7 +208,7 @@ fn two_stripes_are_booked_at_once(rt: HostRuntime) -> Result<(), Fail> {
 }
 
 impl Flags {
-    fn lowered() -> Flags {
+    fn all_lowered() -> Flags {
         Flags {
             raised: (AtomicBool::new(false), AtomicBool::new(false)),
             met: (AtomicBool::new(false), AtomicBool::new(false)),
@@ -236,7 +236,7 @@ fn meet<R: Threads + Wait + Abort + Sync>(
     if setup.stripes() != 2 {
         return Err(Fail::from("another setup"));
     }
-    let flags = Flags::lowered();
+    let flags = Flags::all_lowered();
     let sheet = Sheet::new(alloc, 2, 2)?;
     let booked = book_at_once::<Brand, _>(rt, alloc, setup, sheet, (first, second), &flags)?;
     assert_met(rt, &booked, &flags);
@@ -300,7 +300,7 @@ fn meet_in_round<R: Threads + Wait + Abort + Sync>(
     if round.setup().stripes() != 2 {
         return Err(Fail::from("another setup"));
     }
-    let flags = Flags::lowered();
+    let flags = Flags::all_lowered();
     let sheet = Sheet::new(alloc, 2, 2)?;
     let booked = book_round_at_once::<Brand, _>(rt, alloc, round, sheet, &flags)?;
     assert_met(rt, &booked, &flags);

@@ -16,8 +16,8 @@ use std::sync::Arc;
 use std::test::Fail;
 use std::thread::Threads;
 
-// What gathering the numbers answers, where these batches are given and those were booked.
-fn gathered<H: Threads + Sync>(
+// What gathering the numbers returns, if these batches are given and those were booked.
+fn gather_numbers<H: Threads + Sync>(
     rt: &H,
     alloc: Global,
     setup: &Setup,
@@ -30,7 +30,7 @@ fn gathered<H: Threads + Sync>(
     if stripes.len() != setup.stripes() as usize {
         return Err(Fail::from("not a stripe for each number"));
     }
-    Ok(Numbers::gathered(rt, alloc, 1, stripes, batches, setup))
+    Ok(Numbers::gather(rt, alloc, 1, stripes, batches, setup))
 }
 
 // Numbers of stripes, and positions of a batch.
@@ -57,7 +57,7 @@ fn the_numbers_of_all_stripes(rt: HostRuntime) -> Result<(), Fail> {
     for (stripes, size) in COUNTS {
         let setup = made_setup(3, *stripes)?;
         let batches = batches_of(rt.alloc(), &setup, b"ACGTANACG", *size)?;
-        match gathered(&rt, rt.alloc(), &setup, &batches, &batches)? {
+        match gather_numbers(&rt, rt.alloc(), &setup, &batches, &batches)? {
             Ok(numbers) => {
                 assert_bins(&rt, &numbers.histogram);
                 assert_same(&rt, "statistics", &numbers.statistics, &WANT);
@@ -68,7 +68,7 @@ fn the_numbers_of_all_stripes(rt: HostRuntime) -> Result<(), Fail> {
     Ok(())
 }
 
-// Bases whose batches are given where those of AAAA were booked, and how that is refused.
+// Bases whose batches are given if those of AAAA were booked, and the fault.
 const REFUSALS: &[(&[u8], GatherFault)] = &[
     (b"AAAAC", GatherFault::Missing(0, 1)),
     (b"CCCCC", GatherFault::Foreign(0)),
@@ -80,7 +80,7 @@ fn a_stripe_that_lacks_a_batch_or_has_another_has_no_numbers(rt: HostRuntime) ->
     let booked = batches_of(rt.alloc(), &setup, b"AAAA", 2)?;
     for (bases, want) in REFUSALS {
         let batches = batches_of(rt.alloc(), &setup, *bases, 2)?;
-        match gathered(&rt, rt.alloc(), &setup, &batches, &booked)? {
+        match gather_numbers(&rt, rt.alloc(), &setup, &batches, &booked)? {
             Ok(_) => return Err(Fail::from("numbers")),
             Err(fault) => assert_same(&rt, "a fault", &fault, want),
         }

@@ -1,4 +1,4 @@
-//! Sheets on whose stripes all is allowed.
+//! Sheets with stripes that allow everything.
 
 use kc_share::Books;
 use kc_stripe::Terms;

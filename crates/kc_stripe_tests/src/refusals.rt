@@ -1,11 +1,11 @@
-//! What is refused memory is as it was before: a stripe while a batch is booked, and a share while it books and looks.
+//! What is refused memory is unchanged before: a stripe while a batch is booked, and a share while it books and looks.
 //! Run with each growth refused in turn.
 ghost use Rattle.std.specs.Prelude.{◌≡◌, ◌<◌};
 ghost use Rattle.kc_booking.specs.Setup.{stripe_count, word_count};
 
 use crate::bookings::{Held, NOTHING, assert_held, map_stripe, quotient_stripe};
 use crate::open_terms::Open;
-use crate::rounds::{first_cuts, made_round, picked};
+use crate::rounds::{batches_at, first_cuts, made_round};
 use crate::sample_batches::{batches_in, cuts_of, cuts_of_three, made_setup};
 use crate::sharings::stripes_of;
 use crate::stripe_assertions::assert_same;
@@ -19,7 +19,7 @@ use std::process::Abort;
 use std::sync::Wait;
 use std::test::Fail;
 
-// Books the cut, again where memory is refused: the stripe is then as it was before.
+// Books the cut, again if memory is refused: the stripe is unchanged then.
 fn is_booked_again<C: Counts>(
     rt: &impl Abort,
     stripe: &mut Stripe<C>,
@@ -71,7 +71,7 @@ fn assert_once_each<C: Counts>(
     Ok(())
 }
 
-// Books AAA, and then a batch of 40 other words, again where memory is refused.
+// Books AAA, and then a batch of 40 other words, again if memory is refused.
 fn is_booked_at_last<C: Counts>(
     rt: &impl Abort,
     alloc: Global,
@@ -96,10 +96,10 @@ fn a_refused_growth_leaves_the_stripe(rt: HostRuntime) -> Result<(), Fail> {
 fn round_of_both(alloc: Global) -> Result<Round, Fail> {
     let setup = made_setup(3, 1)?;
     let batches = batches_in(alloc, &setup, TEXTS, 40)?;
-    made_round(alloc, &setup, &picked(alloc, &batches, &[1, 0])?)
+    made_round(alloc, &setup, &batches_at(alloc, &batches, &[1, 0])?)
 }
 
-// Books both batches at once, again where memory is refused: the stripe is then as it was before.
+// Books both batches at once, again if memory is refused: the stripe is unchanged then.
 fn is_round_booked_at_last<C: Counts>(
     rt: &impl Abort,
     alloc: Global,
@@ -110,7 +110,7 @@ fn is_round_booked_at_last<C: Counts>(
     assert_once_each(rt, alloc, stripe)
 }
 
-// Books the round, again where memory is refused: the stripe is then empty.
+// Books the round, again if memory is refused: the stripe is then empty.
 fn is_round_booked_again<C: Counts>(
     rt: &impl Abort,
     stripe: &mut Stripe<C>,
@@ -132,14 +132,14 @@ fn a_refused_growth_leaves_the_stripe_of_a_round(rt: HostRuntime) -> Result<(), 
     is_round_booked_at_last(&rt, alloc, &mut *quotient_stripe(alloc)?)
 }
 
-// What a share tells of stripe 0: words and entries; and its parts.
-fn told<N: Books>(share: &Share<Open<N>>) -> [u64; 3]
+// What a share has of stripe 0: words and entries; and its parts.
+fn share_numbers<N: Books>(share: &Share<Open<N>>) -> [u64; 3]
     requires { 0 < share.now.plan.stripes }
 {
     [share.words(0), share.entries(0), share.parts()]
 }
 
-// Books the cut with the share, again where memory is refused: the share is then as it was before.
+// Books the cut with the share, again if memory is refused: the share is unchanged then.
 fn is_shared_again<N: Books, R: Wait + Abort>(
     rt: &R,
     stripes: &Stripes<PlainCounts, Open<N>>,
@@ -155,7 +155,7 @@ fn is_shared_again<N: Books, R: Wait + Abort>(
         Ok(()) => Ok(()),
         Err(fault) => {
             assert_same(rt, "a fault", &fault, &BookFault::Memory);
-            assert_same(rt, "a share", &told(share), &before);
+            assert_same(rt, "a share", &share_numbers(share), &before);
             match stripes.book(rt, share, cut) {
                 Ok(()) => Ok(()),
                 Err(fault) => Err(Fail::from(fault)),
@@ -164,7 +164,7 @@ fn is_shared_again<N: Books, R: Wait + Abort>(
     }
 }
 
-// How often the word was counted; looked up again where memory is refused: the share is then as it was before.
+// How often the word was counted; looked up again if memory is refused: the share is unchanged then.
 fn is_seen_again<N: Books, R: Wait + Abort>(
     rt: &R,
     alloc: Global,
@@ -176,18 +176,18 @@ fn is_seen_again<N: Books, R: Wait + Abort>(
     requires plan { 0 < share.old.plan.stripes }
     ensures { share.new.plan ≡ share.old.plan }
 {
-    let before = told(share);
+    let before = share_numbers(share);
     match stripes.look(rt, alloc, share, word) {
         Ok(seen) => Ok(seen.count()),
         Err(fault) => {
             assert_same(rt, "a fault", &fault, &BookFault::Memory);
-            assert_same(rt, "a share", &told(share), &before);
+            assert_same(rt, "a share", &share_numbers(share), &before);
             Ok(stripes.look(rt, alloc, share, word)?.count())
         }
     }
 }
 
-// Books AAA, and then a batch of 40 other words, and looks up AAC: how often it was counted, and what the share tells.
+// Books AAA, and then a batch of 40 other words, and looks up AAC: how often it was counted, and what the share has.
 fn share_at_last<N: Books, R: Wait + Abort>(
     rt: &R,
     alloc: Global,
@@ -204,7 +204,7 @@ fn share_at_last<N: Books, R: Wait + Abort>(
     }
     let (stripes, mut share) = stripes_of::<N>(alloc, setup, sheet)?;
     let count = share_and_look(rt, alloc, &stripes, &mut share, forty, one)?;
-    Ok((count, told(&share)))
+    Ok((count, share_numbers(&share)))
 }
 
 // Books AAA and the 40 words with the share, and looks up how often AAC was counted.
@@ -235,7 +235,7 @@ fn a_refused_growth_leaves_the_share(rt: HostRuntime) -> Result<(), Fail> {
     is_shared_at_last(&rt, alloc, &setup, &cuts)
 }
 
-// Whatever growth is refused, both cuts are booked in the end, and the share tells so.
+// Whatever growth is refused, both cuts are booked in the end, and the share has them.
 fn is_shared_at_last<R: Wait + Abort>(
     rt: &R,
     alloc: Global,

@@ -18,7 +18,7 @@ use std::sync::{Arc, Wait};
 use std::test::Fail;
 
 // The batches of these places, in their order, as one list.
-pub(crate) fn picked(
+pub(crate) fn batches_at(
     alloc: Global,
     batches: &[Arc<Batch>],
     places: &[usize],
@@ -92,8 +92,8 @@ const TURNED: Held<'static> = Held {
     counts: &[(0, 3)],
 };
 
-// The number of stripes of the setup by which a round is cut up, the places of its batches, what is answered where it
-// is booked, and what the stripe then holds. The stripe is of one stripe's setup.
+// The number of stripes of the setup by which a round is cut up, the places of its batches, what is returned if it is
+// booked, and what the stripe then holds. The stripe is of one stripe's setup.
 type Step = (u32, &'static [usize], Result<(), BookFault>, Held<'static>);
 
 const STEPS: &[Step] = &[
@@ -110,7 +110,7 @@ const STEPS: &[Step] = &[
 fn round_in(alloc: Global, stripes: u32, texts: &[&[u8]], places: &[usize]) -> Result<Round, Fail> {
     let setup = made_setup(3, stripes)?;
     let batches = batches_in(alloc, &setup, texts, 2)?;
-    made_round(alloc, &setup, &picked(alloc, &batches, places)?)
+    made_round(alloc, &setup, &batches_at(alloc, &batches, places)?)
 }
 
 // The batches cut up, one after another.
@@ -151,7 +151,7 @@ fn takes_the_steps<C: Counts>(
     Ok(())
 }
 
-// The stripe answers so to the round, and then holds this.
+// The stripe returns so to the round, and then holds this.
 fn assert_round_booked<C: Counts>(
     rt: &impl Abort,
     stripe: &mut Stripe<C>,
@@ -221,7 +221,7 @@ fn refuses_the_second(
     )
 }
 
-// Books the round twice with the share of everything: what is answered, and what the share then tells of the stripe.
+// Books the round twice with the share of everything: what is returned, and what the share then has of the stripe.
 fn share_twice<N: Books, R: Wait>(
     rt: &R,
     alloc: Global,
@@ -240,7 +240,7 @@ fn share_twice<N: Books, R: Wait>(
     book_twice(rt, &stripes, &mut share, cuts, &mut ordered)
 }
 
-// Books the round twice in these stripes: what is answered, and what the share then tells of stripe 0.
+// Books the round twice in these stripes: what is returned, and what the share then has of stripe 0.
 fn book_twice<N: Books, R: Wait>(
     rt: &R,
     stripes: &Stripes<PlainCounts, Open<N>>,
@@ -266,7 +266,7 @@ fn a_cleared_round_has_the_next_batches_alone(rt: HostRuntime) -> Result<(), Fai
     let batches = batches_in(alloc, &setup, TWO_BATCHES, 2)?;
     let mut round = made_round(alloc, &setup, &batches)?;
     round.clear();
-    let next = picked(alloc, &batches, &[1])?;
+    let next = batches_at(alloc, &batches, &[1])?;
     for batch in &next {
         round.cut_up(batch)?;
     }

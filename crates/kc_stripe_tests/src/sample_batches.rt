@@ -11,7 +11,7 @@ use std::alloc::{AllocError, Global};
 use std::sync::Arc;
 use std::test::Fail;
 
-// Words of k bases, on both strands together or on one, in so many stripes, by a hash that leaves them as they are.
+// Words of k bases, on both strands or on one, in so many stripes, with a hash that leaves them unchanged.
 pub(crate) fn setup_with(k: u32, both: bool, stripes: u32) -> Option<Setup> {
     let k = K::new(k)?;
     let hash = Hash::of_matrix(Matrix::identity(2 * k.get())).ok()?;
@@ -23,7 +23,7 @@ pub(crate) fn setup_of(k: u32, stripes: u32) -> Option<Setup> {
     setup_with(k, false, stripes)
 }
 
-// A setup for words on one strand, or a failed test where there is none.
+// A setup for words on one strand, or a failed test if there is none.
 pub(crate) fn made_setup(k: u32, stripes: u32) -> Result<Setup, Fail> {
     match setup_of(k, stripes) {
         Some(setup) => Ok(setup),

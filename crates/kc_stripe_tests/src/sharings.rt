@@ -166,7 +166,7 @@ fn book_halves<N: Books + Send + Sync, R: Threads + Wait + Sync>(
     Ok((one, other))
 }
 
-// What each stripe has, its total and the length of its journal, and what the share says of it.
+// What each stripe has, its total and the length of its journal, and what the share has of it.
 pub(crate) type Sums = ((u64, u64), (u64, u64));
 
 pub(crate) fn sums_of<N: Books>(
@@ -203,7 +203,7 @@ fn sums_by_two<N: Books + Send + Sync, R: Threads + Wait + Sync>(
     Ok(sums_of(alloc, setup, &stripes, &whole)?)
 }
 
-// What the one stripe has, and what the share says of it.
+// What the one stripe has, and what the share has of it.
 const SUMS: &[Sums] = &[((8, 2), (8, 2))];
 
 #[test]
@@ -228,8 +228,8 @@ fn sum_up<R: Threads + Wait + Abort + Sync>(
     Ok(())
 }
 
-// What the booking of a cut answers, where its stripe is one of these.
-fn booked<N: Books, R: Wait>(
+// What the booking of a cut returns, if its stripe is one of these.
+fn book_own_cut<N: Books, R: Wait>(
     rt: &R,
     stripes: &Stripes<PlainCounts, Open<N>>,
     share: &mut Share<Open<N>>,
@@ -264,7 +264,7 @@ const TWICE: &Option<Result<(), BookFault>> = &Some(Err(BookFault::Twice));
 
 const A_STRANGER: &Option<Result<(), BookFault>> = &Some(Err(BookFault::Stranger));
 
-// The booking of a cut answers so.
+// The booking of a cut has this result.
 fn assert_booked<N: Books, R: Wait + Abort>(
     rt: &R,
     stripes: &Stripes<PlainCounts, Open<N>>,
@@ -274,7 +274,7 @@ fn assert_booked<N: Books, R: Wait + Abort>(
 )
     ensures { share.new.plan ≡ share.old.plan }
 {
-    let found = booked(rt, stripes, share, cut);
+    let found = book_own_cut(rt, stripes, share, cut);
     assert_same(rt, "a booking", &found, answer);
 }
 
@@ -356,7 +356,7 @@ fn counts_of<N: Books, R: Wait>(
     Ok(counts)
 }
 
-// What the looks answer: how often each of the words was counted, and in how many batches, or why not.
+// The results of looks: how often each of the words was counted, and in how many batches, or why not.
 fn looks_of<N: Books, R: Wait>(
     rt: &R,
     alloc: Global,
@@ -389,7 +389,7 @@ fn look_book_and_look<N: Books, R: Wait>(
     looks_around(rt, alloc, &stripes, share, batches, words)
 }
 
-// What looks tell of the words before and after the batches are booked.
+// The results of looks for the words before and after the batches are booked.
 fn looks_around<N: Books, R: Wait>(
     rt: &R,
     alloc: Global,
@@ -459,7 +459,7 @@ fn totals_of(
     Ok(totals)
 }
 
-// ACG, CGT and AAA, and how often each stands in ACGT.
+// ACG, CGT and AAA, and how often each occurs in ACGT.
 const WORDS: &[u64] = &[6, 27, 0];
 
 const COUNTS: &[u64] = &[1, 1, 0];
@@ -490,13 +490,14 @@ fn find_stripes<R: Wait + Abort>(
     Ok(())
 }
 
-// ACG and its other strand CGT, AAC and its other strand GTT, and TTT, whose other strand is AAA. By their own numbers
-// CGT, GTT and TTT would stand in stripe 3, but the forms under which they count stand in stripes 2, 1 and 0.
+// ACG and its reverse complement CGT, AAC and its reverse complement GTT, and TTT, whose reverse complement is AAA. By
+// their own numbers CGT, GTT and TTT would be in stripe 3, but the forms under which they count are in stripes 2, 1 and
+// 0.
 const STRANDS: &[u64] = &[6, 27, 1, 47, 63];
 
 const NOT_YET: &[Look] = &[Ok((0, 0)), Ok((0, 0)), Ok((0, 0)), Ok((0, 0)), Ok((0, 0))];
 
-// How often each form stands in ACGT and CGTT, which are a batch each: ACG and CGT, and CGT and GTT.
+// How often each form occurs in ACGT and CGTT, which are a batch each: ACG and CGT, and CGT and GTT.
 const TOGETHER: &[Look] = &[Ok((3, 2)), Ok((3, 2)), Ok((1, 2)), Ok((1, 2)), Ok((0, 2))];
 
 #[test]

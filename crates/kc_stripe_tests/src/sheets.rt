@@ -39,7 +39,7 @@ impl<N: Books> Locked<N> {
         }
     }
 
-    // Books a batch where the sums stay small, and says whether it did.
+    // Books a batch if the sums stay small, and returns whether it did.
     fn book(
         &mut self,
         sheet: &OpenSheet<N>,
@@ -83,7 +83,7 @@ fn batches(alloc: Global) -> Result<Vec<Arc<Batch>>, Fail> {
     batches_in(alloc, &made_setup(3, 1)?, &[b"AAAAAAAAAA"], 1)
 }
 
-// Books a batch under each lock, with one word more than its number says.
+// Books a batch under each lock, with one word more than its number.
 fn book_everywhere<N: Books, R: Wait>(
     rt: &R,
     sheet: &OpenSheet<N>,

@@ -1,4 +1,4 @@
-//! Assertions that tell what they were about, proved once for all types of values.
+//! Assertions whose failures show what they were about, proved once for all types of values.
 use std::alloc::AllocError;
 use std::fmt::{Debug, Display};
 use std::process::Abort;

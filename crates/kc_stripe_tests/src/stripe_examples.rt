@@ -17,7 +17,7 @@ fn a_batch_is_cut_up_booked_and_gathered(rt: HostRuntime) -> Result<(), Fail> {
         return Err(Fail::from("another setup"));
     }
     let batches = batches_of(alloc, &setup, b"ACGTA", 8)?;
-    let stripe = booked(alloc, &setup, &batches)?;
+    let stripe = booked_stripe(alloc, &setup, &batches)?;
     let stripes = vec![in alloc; Box::into_inner(stripe)]?;
     let tally = gather(alloc, stripes, &batches, &setup)?;
     assert_eq!(rt; tally.total(), 3);
@@ -25,7 +25,7 @@ fn a_batch_is_cut_up_booked_and_gathered(rt: HostRuntime) -> Result<(), Fail> {
 }
 
 // The one stripe of the setup, in which the batches are booked.
-fn booked(
+fn booked_stripe(
     alloc: Global,
     setup: &Setup,
     batches: &[Arc<Batch>],

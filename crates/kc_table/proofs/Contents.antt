@@ -1,4 +1,4 @@
--- The map that a list of slots holds: what it finds, and what a slot that is written changes.
+-- The map in a list of slots: what a look-up finds, and what writing a slot changes.
 use Rattle.std.proofs.Common.{◌≡◌, ◌≢◌, ◌∙◌, ℕ, zero, suc, ◌+◌, ◌<◌, ◌≤◌, true, false, cond, List, [], ◌∷◌, ◌++◌}
 use Rattle.std.proofs.Common.{length, take, drop, set, Some, Bool, length-append, None, Option, nat_eq, nat_cmp, get_or}
 use Rattle.std.proofs.Common.{refl, sym, ap, arith, is_some, slice_get, ◌⊎◌, inl, inr, append-nil, filter, nat_lt}
@@ -25,14 +25,14 @@ at_self k = (eq_by_cmp_equiv nat_cmp_total).refl k
 pub at_other : (q k : ℕ) → q ≢ k → is_at (nat_cmp q) k ≡ false
 at_other q k apart = eq_by_cmp_apart q k apart
 
--- two slots never hold one key
+-- no two slots have the same key
 abbrev pub Apart : SlotList → Type 0
 Apart slots = (s t k m n : ℕ) → Holds slots s k m → Holds slots t k n → s ≡ t
 
 abbrev pub IsNowhere : SlotList → ℕ → Type 0
 IsNowhere slots k = (t m : ℕ) → Holds slots t k m → ⊥
 
--- the slot is empty, or holds this key already
+-- the slot is empty, or has this key already
 abbrev pub IsOpenTo : SlotList → ℕ → ℕ → Type 0
 IsOpenTo slots s k = (slice_get slots s ≡ Some None) ⊎ ((m : ℕ) × Holds slots s k m)
 
@@ -184,7 +184,7 @@ counts_in-take_held slots i k n apart held =
     ∙ from_entries_push nat_cmp_total nat_cmp-IsAntisymmetric (entries_in (take i slots)) k n
     (find-lookup k (entries_in (take i slots)) ∙ lookup_nowhere (take i slots) k none)
 
--- what the slots so far hold, all of them hold
+-- what the slots so far have, all of them have
 pub IsStored-take : (slots : SlotList) (i k : ℕ) → Apart slots → IsStored (counts_in (take i slots)) k
     → IsStored (counts_in slots) k
 IsStored-take slots i k apart stored =
@@ -210,7 +210,7 @@ counted_in-take slots i slot is =
     ap (filter (λ e. nat_lt 0 e.1)) (entries-take slots i slot is)
     ∙ filter-append (λ e. nat_lt 0 e.1) (entries_in (take i slots)) (cons_option slot [])
 
--- a slot that holds nothing, or a key whose count is 0
+-- an empty slot, or a key with the count 0
 pub counted_in-none : (slots : SlotList) (i : ℕ) (slot : Option (ℕ × ℕ)) → slice_get slots i ≡ Some slot
     → ((k n : ℕ) → Holds slots i k n → n ≡ 0)
     → counted_in (i + 1) slots ≡ counted_in i slots

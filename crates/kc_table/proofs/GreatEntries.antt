@@ -131,7 +131,7 @@ apart_added {places} es p n are new fits =
       ];
     }
 
--- where a place has no count, there are fewer counts than places
+-- if a place has no count, there are fewer counts than places
 place_of_all : (es : List (ℕ × ℕ)) (i d : ℕ) → i < length es → get_or (map (λ (e : ℕ × ℕ). e.0) es) i d ≡ place_in es i
 place_of_all [] i d below = absurd (omega arith)
 place_of_all (e ∷ es) zero d below = refl
@@ -159,7 +159,7 @@ fewer_counts {places} es p are new fits most =
       | inr fewer ↦ omega arith
     ]
 
--- what the entries say
+-- what the entries mean
 place_of_entry : (entries : List Entry) (i : ℕ) → place_in (counts_in entries) i ≡ place_at entries i
 place_of_entry entries i =
     ap (λ (e : ℕ × ℕ). e.0) (get_or-map (λ (e : Entry). (e.place, e.count)) entries i no_entry)

@@ -33,7 +33,7 @@ greatest_of_rows counts rows are = record { most = most; reached = reached (max-
         let told = All-contains (λ r. (get counts r.0 ≡ Some r.1) × (1 ≤ r.1)) rows (row.0, fold max 0 (values_of rows)) are.told row.1 in
         (row.0, count_at-some counts row.0 (fold max 0 (values_of rows)) told.0)
 
--- one row more
+-- one more row
 pub max-push : (rows : Entries) (key count : ℕ) → max (fold max 0 (values_of rows)) count ≡ fold max 0 (values_of (rows ++ (key, count) ∷ []))
 max-push rows key count =
     sym (ap (fold max 0) (map_push (λ (row : ℕ × ℕ). row.1) rows (key, count)) ∙ fold_push max 0 (values_of rows) count)

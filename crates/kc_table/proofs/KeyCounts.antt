@@ -36,7 +36,7 @@ find-lookup q (e ∷ es) = ap (cond (is_eq (nat_cmp q e.0)) (Some e.1)) (find-lo
 pub get-entries : (es : Entries) (q : ℕ) → get (from_entries {R = nat_cmp} es) q ≡ lookup (is_at (nat_cmp q)) es
 get-entries es q = get-from_entries nat_cmp_total es q ∙ find-lookup q es
 
--- two maps are one where they answer alike
+-- two maps are equal if they return the same
 pub same_counts : (m n : KeyCounts) → ((q : ℕ) → get m q ≡ get n q) → m ≡ n
 same_counts m n = same_map nat_cmp_total nat_cmp-IsAntisymmetric m n
 
@@ -127,7 +127,7 @@ writes_by_set_value es fs k v n found is q =
     ∙ lookup-set_value laws (is_at (nat_cmp k)) (λ x y t. laws.congr k x y t) q v es
     (subst (λ (o : Option ℕ). IsSome o) found refl)
 
--- what a map of entries finds, where it is seen as m
+-- what a map of entries finds, if it is seen as m
 pub counts_found : (es : Entries) (m : KeyCounts) (k : ℕ) → from_entries es ≡ m
     → get m k ≡ lookup (is_at (nat_cmp k)) es
 counts_found es m k is = ap (λ (n : KeyCounts). get n k) (sym is) ∙ get-entries es k
@@ -186,7 +186,7 @@ apart_from_sorted ks sorted =
     subst (λ (same : ℕ → ℕ → Bool). IsDistinct same ks) (λ i x y. eq_by_cmp-nat x y i)
     (IsDistinct-from_sorted nat_cmp ks sorted)
 
--- what holds of each answer that is Ok
+-- what holds for each result that is Ok
 pub IfOk-weaker : {T E : Type 0} (P Q : T → Type 0) (r : Result T E) → ((v : T) → P v → Q v) → IfOk r P → IfOk r Q
 IfOk-weaker P Q (Ok v) f h = f v h
 IfOk-weaker P Q (Err e) f h = tt
@@ -207,7 +207,7 @@ len-insert_stored m k v stored = len-insert nat_cmp_total m k v ∙ ap (λ b. co
 pub stored_by_some : (m : KeyCounts) (k n : ℕ) → get m k ≡ Some n → IsStored m k
 stored_by_some m k n is = ap is_some is
 
--- what a look that finds nothing says
+-- what it means that a look-up finds nothing
 pub stored_by_none : (m : KeyCounts) (k : ℕ) → get m k ≡ None
     → (false ≡ true → IsStored m k) × (IsStored m k → false ≡ true)
 stored_by_none m k is = (λ never. absurd (let h : false ≡ true = never in cc), λ stored. sym (ap is_some is) ∙ stored)
@@ -265,7 +265,7 @@ pub added-readied : (m : KeyCounts) (k : ℕ) → added (readied m k) k ≡ adde
 added-readied m k =
     ap (λ n. insert (readied m k) k (n + 1)) (count_at-readied m k k) ∙ insert-readied m k (count_at m k + 1)
 
--- what is asked of a key before it is counted, and what is known after it, where it was readied first
+-- what is asked of a key before it is counted, and what is known after it, if it was readied first
 pub room_readied : (m after : KeyCounts) (k n : ℕ) → after ≡ readied m k → count_at m k < n → count_at after k < n
 room_readied m after k n is room =
     subst (λ c. c < n) (sym (ap (λ (x : KeyCounts). count_at x k) is ∙ count_at-readied m k k)) room
@@ -291,7 +291,7 @@ stored_by_count m k some = count_found m k (get m k) refl some
 pub count_at-empty : (q : ℕ) → count_at empty q ≡ 0
 count_at-empty q = ap (λ o. unwrap_or o 0) (get-empty nat_cmp q)
 
--- the rows of a map, read as a map of their own, tell the same numbers
+-- the rows of a map, read as a map of their own, have the same numbers
 count_by_rows : (m : KeyCounts) (rows : Entries) (q : ℕ) (found : Option ℕ) → AreRowsOf m rows
     → get {R = nat_cmp} (from_entries rows) q ≡ found → unwrap_or found 0 ≡ count_at m q
 count_by_rows m rows q (Some n) are is =

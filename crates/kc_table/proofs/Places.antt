@@ -140,7 +140,7 @@ record AreSpread (l log i j : ℕ) : Type 0 where
   first : i < min 63 (2 ^ l)
   second : j < min 63 (2 ^ l)
 
--- places differ where they do in a table of 2 ^ l slots
+-- places differ if they do in a table of 2 ^ l slots
 differ_by : (key i j log l : ℕ) → AreSpread l log i j → place key i log ≡ place key j log → i ≡ j
 differ_by key i j log l spread same =
     let narrow : l ≤ log = spread.narrow in

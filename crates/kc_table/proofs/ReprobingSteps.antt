@@ -9,8 +9,8 @@ use Rattle.kc_table.specs.Sizes.{place_count}
 use Rattle.kc_table.specs.Slot.{key_in}
 use Rattle.kc_table.proofs.Places.{place_step}
 
--- A walk over the places of a key: its next place is the i-th, it stands at the one before, and the count of slot reads
--- has come from `begun` to `count`.
+-- A walk over the places of a key: its next place is the i-th, it is at the one before, and the count of slot reads
+-- went from `begun` to `count`.
 pub record Walk : Type 0 where
   pub log : ℕ
   pub tag : ℕ → ℕ
@@ -20,7 +20,7 @@ pub record Walk : Type 0 where
   pub begun : ℕ
   pub count : ℕ
 
--- the first i places are taken by others, the walk stands at the last of them, and each was read once
+-- the first i places have other keys, the walk is at the last of them, and each was read once
 pub record IsWalked (w : Walk) : Type 0 where
   pub here : w.stand ≡ place w.key (w.i - 1) w.log
   pub taken : AreTakenBefore w.log w.tag w.key w.i
@@ -99,7 +99,7 @@ module _ (w : Walk) (l : Look) (walked : IsWalked w) (look : IsLook w l) where
       let so_far : w.count ≡ w.begun + w.i = walked.counted in
       let step : l.after ≡ w.count + 1 = look.step in omega arith
 
-  -- the key stands there
+  -- the key is there
   pub walked_found : l.read ≡ l.wanted
       → (found : IsFound w.log w.tag w.key l.next) × AreTakenBefore w.log w.tag w.key found.reprobe
       × (l.after - w.begun ≡ found.reprobe + 1)

@@ -1,4 +1,4 @@
--- The map of a table, carried over to a larger one, and what it says of a size that a key finds no place there.
+-- The map of a table, moved to a larger one, and what it means for a size that a key finds no place there.
 use Rattle.std.proofs.Common.{◌≡◌, ◌≢◌, ◌∙◌, ℕ, ◌+◌, ◌*◌, ◌/◌, ◌%◌, ◌^◌, ◌<◌, ◌≤◌, length, take, Some, None, sym}
 use Rattle.std.proofs.Common.{◌↔◌, ap, subst, subst₂, arith, slice_get, inl, bit_and, pow_mono, le-add_right, take_all}
 use Rattle.std.specs.FinMap.{get, insert, empty}
@@ -56,7 +56,7 @@ pub record IsCarried (from to : Slots) (log index : ℕ) : Type 0 where
   pub same_log : to.log ≡ log
   pub counts : key_counts to ≡ counts_in (take index (contents_of from.log from.slots.items))
 
--- what the slot at this index holds is put into the other table
+-- the contents of the slot at this index are put into the other table
 pub record IsPut (from to after : Slots) (index key count : ℕ) : Type 0 where
   pub held : Holds (contents_of from.log from.slots.items) index key count
   pub same_bits : after.bits ≡ to.bits
@@ -118,7 +118,7 @@ pub carried_none : (from to : Slots) (log : ℕ) → to.bits ≡ from.bits → t
     → IsCarried from to log 0
 carried_none from to log bits_is log_is none = record { same_bits = bits_is; same_log = log_is; counts = none }
 
--- the table has 2 ^ log slots for keys of so many bits, and holds these counts
+-- the table has 2 ^ log slots for keys of so many bits, and these counts
 pub record IsTableOf (bits log : ℕ) (counts : KeyCounts) (table : Slots) : Type 0 where
   pub same_bits : table.bits ≡ bits
   pub same_log : table.log ≡ log

@@ -49,7 +49,7 @@ slot_beside low number great same =
     let test : nat_eq (number % 2 ^ low) (2 ^ low - 1) ≡ true = grind (arith, common_steps) in
     ap (λ b. record { tag = number / 2 ^ low; count = cond b great (number % 2 ^ low) }) test
 
--- what is put together of a tag and low bits
+-- a number made of a tag and low bits
 module _ (low tag below : ℕ) (fits : below < 2 ^ low) where
   pub tag_put : (tag * 2 ^ low + below) / 2 ^ low ≡ tag
   tag_put = div-mul-add tag (2 ^ low) below fits
@@ -140,7 +140,7 @@ module _ (low : ℕ) (numbers : List ℕ) (greats : List (ℕ × ℕ)) (index nu
         ap (λ n. slot_of low n great) is ∙ slot_put_beside low (number / 2 ^ low) great
         ∙ same_slot (record { tag = number / 2 ^ low; count = great }) changed tag_read counted
 
--- what an addition and a subtraction make of the number that was read
+-- the effect of an addition and a subtraction on the number that was read
 module _ (low : ℕ) (numbers : List ℕ) (greats : List (ℕ × ℕ)) (index number : ℕ) (below : index < length numbers)
     (read : number ≡ get_or numbers index 0) (mask : ℕ) (ones : mask ≡ 2 ^ low - 1) where
   bits : bit_and number mask ≡ number % 2 ^ low
@@ -181,7 +181,7 @@ module _ (low : ℕ) (numbers : List ℕ) (greats : List (ℕ × ℕ)) (index nu
         (omega (arith, div-add-mod' number (2 ^ low), counted, some)) (omega (arith, bits, under, ones, counted, some))
         (ap (λ n. n - 1) counted) great
 
-  -- where the low bits are all 1, and where they become so
+  -- if the low bits are all 1, and if they become all 1
   module _ (full : mask ≤ bit_and number mask) where
     pub lowered_beside : (great : ℕ) → great ≡ great_count greats index - 1 → slot_of low number great ≡ lowered
     lowered_beside great is =
@@ -240,7 +240,7 @@ pub tag_at-set_other : (slots : List Slot) (s : ℕ) (slot : Slot) (t : ℕ) →
     → tag_at (set slots s slot) t ≡ tag_at slots t
 tag_at-set_other slots s slot t apart = ap (λ (r : Slot). r.tag) (get_or-set_other slots s t slot empty_slot apart)
 
--- A number is written at a place, and perhaps a great count, so that this slot stands there.
+-- A number is written at a place, and perhaps a great count, so this slot is there.
 pub record IsWrite (low : ℕ) (numbers : List ℕ) (greats after : List (ℕ × ℕ)) (index number : ℕ) (slot : Slot) : Type 0 where
   pub below : index < length numbers
   pub here : slot_of low number (great_count after index) ≡ slot
@@ -274,7 +274,7 @@ written low numbers greats after index number slot is =
           ∙ sym (get_or-set_other old index i slot empty_slot apart)
     ])
 
--- and where the number there stays
+-- and if the number there stays
 pub written_beside : (low : ℕ) (numbers : List ℕ) (greats after : List (ℕ × ℕ)) (index : ℕ) (slot : Slot)
     → IsWrite low numbers greats after index (get_or numbers index 0) slot
     → slots_of low numbers after ≡ set (slots_of low numbers greats) index slot
@@ -282,7 +282,7 @@ written_beside low numbers greats after index slot is =
     ap (λ ns. slots_of low ns after) (sym (set-get_or numbers index 0))
     ∙ written low numbers greats after index (get_or numbers index 0) slot is
 
--- slots whose numbers are 0 are empty, where they have no great counts
+-- slots whose numbers are 0 are empty, if they have no great counts
 pub empty_slots : (low n : ℕ) (numbers : List ℕ) (greats : List (ℕ × ℕ)) → numbers ≡ replicate n 0
     → ((place : ℕ) → great_count greats place ≡ 0) → slots_of low numbers greats ≡ replicate n empty_slot
 empty_slots low n numbers greats zeros none =

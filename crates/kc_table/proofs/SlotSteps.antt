@@ -1,4 +1,4 @@
--- Slots and what they hold: what a slot that is written changes, what a found, a free and a crowded key say of the map.
+-- Slots and their contents: what writing a slot changes, and what a found, a free and a crowded key mean for the map.
 use Rattle.std.proofs.Common.{◌≡◌, ◌≢◌, ◌∙◌, ℕ, zero, suc, ◌+◌, ◌-◌, ◌*◌, ◌%◌, ◌^◌, ◌<◌, ◌≤◌, true, false, cond, List, [], ◌∷◌}
 use Rattle.std.proofs.Common.{length, set, replicate, Some, None, Option, nat_eq, nat_cmp, get_or, refl, sym, ap, subst, arith}
 use Rattle.std.proofs.Common.{slice_get, inl, inr, zero-add, add-zero}
@@ -84,7 +84,7 @@ pub empty_at : (log : ℕ) (slots : List Slot) (s : ℕ) → s < length slots �
 empty_at log slots s below none =
     content_at log slots s below ∙ ap (λ x. Some x) (content_of_empty log s (get_or slots s empty_slot) none)
 
--- what a slot that holds a key says of its tag and count
+-- the tag and count of a slot that has a key
 pub record IsSlotOf (log : ℕ) (slots : List Slot) (s k n : ℕ) : Type 0 where
   pub some : tag_at slots s ≢ 0
   pub key : key_in log s (tag_at slots s) ≡ k
@@ -113,7 +113,7 @@ held_slot log slots s k n slot =
     holds_at log slots s slot.some ∙ ap (λ x. Some (Some (x, slot_count slots s))) slot.key
     ∙ ap (λ x. Some (Some (k, x))) slot.count
 
--- a slot that holds a key, by what is read of it: its tag as a number, its key and its count
+-- a slot that has a key, by what is read of it: its tag as a number, its key and its count
 pub held_read : (log : ℕ) (slots : List Slot) (s number tag k n : ℕ) → number ≡ tag → tag ≡ tag_at slots s → number ≢ 0
     → k ≡ key_in log s tag → n ≡ slot_count slots s → Holds (contents_of log slots) s k n
 held_read log slots s number tag k n is read some key count = held_slot log slots s k n (record {
@@ -169,7 +169,7 @@ module _ {bits log : ℕ} (slots : List Slot) (sound : IsSound bits log (tag_at 
       } in
       crowded_from crowd
 
-  -- the key's first n places hold other keys
+  -- the key's first n places have other keys
   abbrev pub AreHeldByOthers : ℕ → ℕ → Type 0
   AreHeldByOthers key n =
       (i : ℕ) → i < n → (other : ℕ) × (other ≢ key) × HoldsKey (contents_of log slots) (place key i log) other
@@ -208,7 +208,7 @@ module _ {bits log : ℕ} (slots : List Slot) (sound : IsSound bits log (tag_at 
       subst (λ n. index < n) (sym sized) (subst (λ s. s < 2 ^ log) (sym free.here) (place-lt key free.reprobe log)) in
       ap (slice_get (contents_of log slots)) (sym free.here) ∙ empty_at log slots index fits free.empty
 
-  -- and where all places hold others, no walk finds one
+  -- and if all places have other keys, no walk finds one
   pub out_by_others : (key : ℕ) → AreHeldByOthers key place_count → IsOut log (tag_at slots) key
   out_by_others key others i below =
       let s = place key i log in
@@ -219,7 +219,7 @@ module _ {bits log : ℕ} (slots : List Slot) (sound : IsSound bits log (tag_at 
         other = λ same. at.1 (sym slot.key ∙ ap (key_in log s) same ∙ key_in-tag_of key i log below);
       }
 
-  -- a place that is empty or holds the key is not taken by another
+  -- a place that is empty or has the key is not taken by another
   pub not_shut_found : (key index : ℕ) → IsFound log (tag_at slots) key index → AreHeldByOthers key place_count → ⊥
   not_shut_found key index found shut =
       let at = shut found.reprobe found.small in
@@ -278,7 +278,7 @@ mask_of table = 1 * 2 ^ table.log % 2 ^ 64 - 1
 pub mask_is : (table : Slots) → mask_of table ≡ 2 ^ table.log - 1
 mask_is table = ap (λ n. n - 1) (slots_shifted table)
 
--- where no slot has a tag
+-- if no slot has a tag
 pub sound-empty : {bits log : ℕ} (n : ℕ) (slots : List Slot) → slots ≡ replicate n empty_slot
     → bits ≤ 62 → log ≤ 40 → log ≤ bits → bits ≤ log + 58 → IsSound bits log (tag_at slots)
 sound-empty n slots is few_bits few_slots no_wider fits =
@@ -320,7 +320,7 @@ module _ {bits log : ℕ} (slots : List Slot) (sound : IsSound bits log (tag_at 
   pub get_out : IsOut log (tag_at slots) key → get (counts_of log slots) key ≡ None
   get_out out = get-counts_in_nowhere (contents_of log slots) key (nowhere_out slots sound key out)
 
-  -- a slot that holds the key is where the walk finds it
+  -- the walk finds the slot that has the key
   pub found_held : (index count : ℕ) → Holds (contents_of log slots) index key count
       → IsFound log (tag_at slots) key index
   found_held index count held =
@@ -335,7 +335,7 @@ module _ {bits log : ℕ} (slots : List Slot) (sound : IsSound bits log (tag_at 
   pub found_at : (index : ℕ) → HoldsKey (contents_of log slots) index key → IsFound log (tag_at slots) key index
   found_at index held = found_held index held.0 held.1
 
-  -- where there is a slot for each possible key, a key is found at its home
+  -- if there is a slot for each possible key, a key is found at its home
   pub found_home : (index : ℕ) → key < 2 ^ bits → IsFound log (tag_at slots) key index → log ≡ bits → index ≡ key
   found_home index below found full =
       let home : reprobe_of (tag_at slots index) ≡ 0 = sound.at_home full index (found_some sound key index found) in
@@ -344,7 +344,7 @@ module _ {bits log : ℕ} (slots : List Slot) (sound : IsSound bits log (tag_at 
       ∙ ap (λ i. place (key_in log index (tag_at slots index)) i log) home
       ∙ ap (λ k. place k 0 log) (found_key sound key index found) ∙ place-home key log low
 
--- the entries of the first slots: where the next slot has none, and where all slots are past
+-- the entries of the first slots: if the next slot has none, and if all slots are past
 pub counted_none : (table : Slots) (index : ℕ) → index < 1 * 2 ^ table.log % 2 ^ 64
     → ((key count : ℕ) → Holds (slot_list table) index key count → count ≡ 0)
     → counted_in (index + 1) (slot_list table) ≡ counted_in index (slot_list table)

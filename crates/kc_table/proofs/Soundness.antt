@@ -1,5 +1,4 @@
--- What follows from sound tags: where a key stands, where none does, and that a tag put at a free place keeps them
--- sound.
+-- Consequences of sound tags: where a key is, when there is none, and that a tag put at a free place keeps them sound.
 use Rattle.std.proofs.Common.{◌≡◌, ◌≢◌, ◌∙◌, ℕ, ◌+◌, ◌-◌, ◌*◌, ◌/◌, ◌%◌, ◌^◌, ◌<◌, ◌≤◌, sym, ap, subst, arith, inl, inr}
 use Rattle.std.proofs.Common.{mod-lt, pow-add, pow_mono}
 use Rattle.std.proofs.lemmas.Bool.{cases_eq, cases_lt}
@@ -26,7 +25,7 @@ module _ {bits log : ℕ} {tag : ℕ → ℕ} (sound : IsSound bits log tag) whe
   pub stands : (s : ℕ) → tag s ≢ 0 → IsPlaceOf log (key_in log s (tag s)) s
   stands s some = (reprobe_of (tag s), reprobe_small s some, at_place s some)
 
-  -- A slot that holds the key is no place before which all are taken by others.
+  -- A slot that has the key is a place before which not all are taken by others.
   pub not_before : (key i s : ℕ) → ((j : ℕ) → j < i → IsTaken log tag key j) → tag s ≢ 0 → key_in log s (tag s) ≡ key
       → i ≤ reprobe_of (tag s)
   not_before key i s before some is =
@@ -40,7 +39,7 @@ module _ {bits log : ℕ} {tag : ℕ → ℕ} (sound : IsSound bits log tag) whe
         | inr past ↦ past
       ]
 
-  -- where the walk came to a free place, the key is nowhere
+  -- if the walk came to a free place, the key is nowhere
   pub absent_by_free : (key slot new : ℕ) → IsFree log tag key slot new → (s : ℕ) → tag s ≢ 0
       → key_in log s (tag s) ≡ key → ⊥
   absent_by_free key slot new free s some is =
@@ -60,7 +59,7 @@ module _ {bits log : ℕ} {tag : ℕ → ℕ} (sound : IsSound bits log tag) whe
       let past : 63 ≤ reprobe_of (tag s) = not_before key 63 s out some is in
       let small : reprobe_of (tag s) < 63 = reprobe_small s some in omega arith
 
-  -- a found slot holds the key
+  -- a found slot has the key
   pub found_some : (key slot : ℕ) → IsFound log tag key slot → tag slot ≢ 0
   found_some key slot found none = let is : tag_of log key found.reprobe ≡ 0 = sym found.is ∙ none in omega arith
 
@@ -69,7 +68,7 @@ module _ {bits log : ℕ} {tag : ℕ → ℕ} (sound : IsSound bits log tag) whe
       ap (key_in log slot) found.is ∙ ap (λ s. key_in log s (tag_of log key found.reprobe)) found.here
       ∙ key_in-tag_of key found.reprobe log found.small
 
-  -- where there is a slot for each possible key, no home is taken by another key
+  -- if there is a slot for each possible key, no home is taken by another key
   pub home_not_taken : (key : ℕ) → key < 2 ^ bits → log ≡ bits → IsTaken log tag key 0 → ⊥
   home_not_taken key below full taken =
       let s = place key 0 log in

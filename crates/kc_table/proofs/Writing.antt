@@ -23,7 +23,7 @@ contents_of-set log slots s slot k some key =
     contents_from-set log 0 slots s slot ∙ ap (λ n. set (contents_of log slots) s (content_of log n slot)) (zero-add s)
     ∙ ap (set (contents_of log slots) s) (content_of_some log s slot some ∙ ap (λ x. Some (x, slot.count)) key)
 
--- what a table keeps where a slot is written with which the tags stay sound
+-- what a table keeps if a slot is written with which the tags stay sound
 pub table_kept : (table : Slots) (index tag_bits : ℕ) (slot : Slot) (after : List Slot)
     → IsSound table.bits table.log (tag_at (set table.slots.items index slot)) → tag_bits ≡ table.slots.tag_bits
     → after ≡ set table.slots.items index slot
@@ -137,7 +137,7 @@ module _ (table : Slots) (key index : ℕ) where
         (λ t m apart other. apart
         (slots_apart table.slots.items table.sound t index key m (slot_count table.slots.items index) other held))
 
-  -- and is what its old count makes of it
+  -- and is the new count for its old one
   module _ (found : IsFound table.log (tag_at table.slots.items) key index) where
     pub count_here : count_at (counts_of table.log table.slots.items) key ≡ slot_count table.slots.items index
     count_here = count_at-some _ key _ (get_found table.slots.items table.sound key index found)

@@ -1,9 +1,9 @@
--- The counts that their slots have no room for: entries of a place and a count, linked in buckets by the places.
+-- The counts that are too large for their slots: entries of a place and a count, linked in buckets by their places.
 use Rattle.std.specs.Prelude.{◌≡◌, ◌≢◌, refl, ℕ, ◌-◌, ◌/◌, ◌<◌, ◌≤◌, ◌==◌, if◌then◌else◌, max, bit_and}
 use Rattle.std.specs.Prelude.{List, [], ◌∷◌, length, map, slice_index_or}
 use Rattle.kc_table.specs.declared.great_counts.Entry.{Entry}
 
--- Counts with their places, which are below a number.
+-- Counts with their places, which are below `places`.
 pub record Greats : Type 0 where
   pub places : ℕ
   pub counts : List (ℕ × ℕ)
@@ -12,7 +12,7 @@ pub record Greats : Type 0 where
 abbrev pub counts_in : List Entry → List (ℕ × ℕ)
 counts_in entries = map (λ (e : Entry). (e.place, e.count)) entries
 
--- The count of a place: that of the first with this place, and 0 where there is none.
+-- The count of a place: that of the first entry with this place, 0 if there is none.
 abbrev pub great_count : List (ℕ × ℕ) → ℕ → ℕ
 great_count [] place = 0
 great_count (e ∷ es) place = if e.0 == place then e.1 else great_count es place
@@ -29,21 +29,22 @@ place_at entries i = (slice_index_or entries i no_entry).place
 abbrev pub next_at : List Entry → ℕ → ℕ
 next_at entries i = (slice_index_or entries i no_entry).next
 
--- Among so many buckets, a power of 2, the low bits of a place are its bucket.
+-- The bucket of a place: its low bits; the number of buckets is a power of 2.
 abbrev pub bucket_of : ℕ → ℕ → ℕ
 bucket_of buckets place = bit_and place (buckets - 1)
 
 bucket_rows : (bucket_of 8 21 ≡ 5) × (bucket_of 1 21 ≡ 0)
 bucket_rows = (refl, refl)
 
--- Of entries whose buckets these are, a link leads to the last one of a bucket before the entry n: it is one more than
--- the index of that entry, and 0 where there is none.
+-- A link from entry n to the last entry of a bucket before it: one more than the index of that entry, or 0 if there is
+-- none. `bucket_at` is the bucket of each entry.
 pub record IsLink (bucket_at : ℕ → ℕ) (bucket n link : ℕ) : Type 0 where
   pub within : link ≤ n
   pub same : link ≢ 0 → bucket_at (link - 1) ≡ bucket
   pub none : (i : ℕ) → link ≤ i → i < n → bucket_at i ≢ bucket
 
--- The first n entries are linked: the head of each bucket leads to its last one, and each to the one before it.
+-- The first n entries are linked: the head of each bucket links to its last entry, and each entry to the one before it
+-- in its bucket.
 pub record IsLinked (heads : List ℕ) (entries : List Entry) (n : ℕ) : Type 0 where
   pub head : (b : ℕ) → b < length heads
       → IsLink (λ i. bucket_of (length heads) (place_at entries i)) b n (slice_index_or heads b 0)
@@ -51,7 +52,7 @@ pub record IsLinked (heads : List ℕ) (entries : List Entry) (n : ℕ) : Type 0
       → IsLink (λ j. bucket_of (length heads) (place_at entries j)) (bucket_of (length heads) (place_at entries i)) i
       (next_at entries i)
 
--- there are buckets, in which all entries are linked
+-- there is at least one bucket, and all entries are linked
 pub record IsChained (heads : List ℕ) (entries : List Entry) : Type 0 where
   pub some : 0 < length heads
   pub linked : IsLinked heads entries (length entries)
@@ -60,13 +61,12 @@ pub record IsChained (heads : List ℕ) (entries : List Entry) : Type 0 where
 abbrev pub place_in : List (ℕ × ℕ) → ℕ → ℕ
 place_in counts i = (slice_index_or counts i (0, 0)).0
 
--- no two counts have one place, and each has a place below this number
+-- the counts have different places, each below `places`
 pub record AreApart (places : ℕ) (counts : List (ℕ × ℕ)) : Type 0 where
   pub apart : (i j : ℕ) → i < j → j < length counts → place_in counts i ≢ place_in counts j
   pub inside : (i : ℕ) → i < length counts → place_in counts i < places
 
--- All entries are linked, their places differ, and there is no room for more heads than an eighth of the places, or
--- one.
+-- All entries are linked, their places differ, and the heads have room for an eighth of the places, at least for one.
 pub record IsGreatCounts (places room : ℕ) (heads : List ℕ) (entries : List Entry) : Type 0 where
   pub chained : IsChained heads entries
   pub apart : AreApart places (counts_in entries)

@@ -1,4 +1,4 @@
--- What `LimitedCounts` is seen as, and when it may answer that it is full.
+-- The model of `LimitedCounts`, and when it may return `Full`.
 use Rattle.std.specs.Prelude.{◌≡◌, ℕ, ◌≤◌, refl, None}
 use Rattle.std.specs.Coded.{Coded, code_by, coded×, coded_ℕ}
 use Rattle.std.specs.FinMap.{get, len, code}
@@ -7,14 +7,14 @@ use Rattle.kc_table.specs.declared.table_fault.TableFault.TheVariants.{Full}
 use Rattle.kc_table.specs.contracts.table_fault.TableFault.{the_row}
 use Rattle.kc_table.specs.Counts.{KeyCounts}
 
--- its keys' bits, the map, how many keys it takes, and what it answers to a new key beyond
+-- the number of bits of its keys, the map, the greatest number of keys, and the error for a new key beyond it
 pub record Limited : Type 0 where
   pub bits : ℕ
   pub counts : KeyCounts
   pub limit : ℕ
   pub refusal : TableFault
 
--- it is stored as the tuple of its fields
+-- it is coded as the tuple of its fields
 abbrev pub limited_code : Coded Limited
 limited_code =
     code_by (ℕ × (KeyCounts × (ℕ × TableFault)))
@@ -22,10 +22,10 @@ limited_code =
     (λ t. (t.bits, (t.counts, (t.limit, t.refusal))))
     (λ p. record { bits = p.0; counts = p.1.0; limit = p.1.1.0; refusal = p.1.1.1 }) (λ _. refl)
 
--- a new key, where the map has as many keys as the table takes
+-- the key is new, and the map has as many keys as the table takes
 abbrev pub HasReachedLimit : Limited → KeyCounts → ℕ → Type 0
 HasReachedLimit table counts key = (table.limit ≤ len counts) × (get counts key ≡ None)
 
--- and where the answer chosen is `Full`
+-- the same, and the chosen error is `Full`
 abbrev pub IsAtLimit : Limited → KeyCounts → ℕ → Type 0
 IsAtLimit table counts key = (table.refusal ≡ Full) × HasReachedLimit table counts key

@@ -1,4 +1,4 @@
--- A row of numbers of 32 or of 64 bits each.
+-- A list of numbers of 32 or of 64 bits each.
 use Rattle.std.specs.Prelude.{ℕ, List, vec_capacity}
 use Rattle.kc_table.specs.declared.number_rows.Numbers.{Numbers}
 use Rattle.kc_table.specs.declared.number_rows.Numbers.TheVariants.{Narrow, Wide}

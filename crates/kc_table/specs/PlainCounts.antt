@@ -1,15 +1,15 @@
--- What `PlainCounts` is seen as.
+-- The model of `PlainCounts`.
 use Rattle.std.specs.Prelude.{refl, ℕ}
 use Rattle.std.specs.Coded.{Coded, code_by, coded×, coded_ℕ}
 use Rattle.std.specs.FinMap.{code}
 use Rattle.kc_table.specs.Counts.{KeyCounts}
 
--- its keys' bits, and the map
+-- the number of bits of its keys, and the map
 pub record Plain : Type 0 where
   pub bits : ℕ
   pub counts : KeyCounts
 
--- it is stored as the pair of its fields
+-- it is coded as the pair of its fields
 abbrev pub plain_code : Coded Plain
 plain_code =
     code_by (ℕ × KeyCounts) (coded× coded_ℕ (code coded_ℕ coded_ℕ))

@@ -14,13 +14,13 @@ pub trait Counts {
 
     ghost counts: { Self → KeyCounts };
 
-    // For which maps and keys this table may answer `Full`.
+    // For which maps and keys this table may return `Full`.
     ghost may_be_full: { Self → KeyCounts → ℕ → Type 0 };
 
     // How many slots the table has.
     ghost slots: { Self → ℕ };
 
-    // In which part of the table a key stands.
+    // The part of the table that has a key.
     ghost part: { Self → ℕ → ℕ };
 
     /// The number of bits of the keys.
@@ -29,8 +29,8 @@ pub trait Counts {
         ensures few { result ≤ most_bits }
         ensures within { IsWithin result (counts self.now) };
 
-    /// Stores the key, with the count 0 where it was not stored; a stored key is never refused. `Full` comes only
-    /// where the type's `may_be_full` allows it, and `Memory` where a growth was refused.
+    /// Stores the key, with the count 0 if it was not stored; a stored key is never refused. `Full` comes only if the
+    /// type's `may_be_full` allows it, and `Memory` if a growth was refused.
     fn ready(&mut self, key: u64) -> Result<(), TableFault>
         requires { key < 2 ^ bits self.old }
         ensures known { IsStored (counts self.old) key → IsOk result }
@@ -40,9 +40,9 @@ pub trait Counts {
         ensures same_bits { bits self.new ≡ bits self.old }
         ensures same_limits { (m : KeyCounts) (q : ℕ) → may_be_full self.new m q ↔ may_be_full self.old m q };
 
-    /// Stores the key where it is not stored, adds one to its count, and returns the new count; a stored key is never
-    /// refused. `Full` comes only where the type's `may_be_full` allows it, and `Memory` where a growth was refused.
-    /// After a refusal no count has changed.
+    /// Stores the key if it is not stored, adds one to its count, and returns the new count; a stored key is never
+    /// refused. `Full` comes only if the type's `may_be_full` allows it, and `Memory` if a growth was refused. After a
+    /// refusal no count has changed.
     fn count(&mut self, key: u64) -> Result<u64, TableFault>
         requires in_range { key < 2 ^ bits self.old }
         requires room { count_at (counts self.old) key < 2 ^ count_bits }
@@ -54,7 +54,7 @@ pub trait Counts {
         ensures same_bits { bits self.new ≡ bits self.old }
         ensures same_limits { (m : KeyCounts) (q : ℕ) → may_be_full self.new m q ↔ may_be_full self.old m q };
 
-    /// Takes one away from the key's count, which is at least 1. The key stays stored. It takes no memory.
+    /// Decreases the key's count, which is at least 1, by one. The key stays stored. It takes no memory.
     fn uncount(&mut self, key: u64)
         requires in_range { key < 2 ^ bits self.old }
         requires some { 1 ≤ count_at (counts self.old) key }
@@ -62,7 +62,7 @@ pub trait Counts {
         ensures same_bits { bits self.new ≡ bits self.old }
         ensures same_limits { (m : KeyCounts) (q : ℕ) → may_be_full self.new m q ↔ may_be_full self.old m q };
 
-    /// How many slots the table has, 0 where it has none (a map that is no array): for speed alone.
+    /// How many slots the table has, 0 if it has none (a map that is no array). It matters only for speed.
     fn slots(&self) -> u64
         ensures { result ≡ slots self.now };
 
@@ -75,13 +75,13 @@ pub trait Counts {
         ensures same_bits { bits self.new ≡ bits self.old }
         ensures same_limits { (m : KeyCounts) (q : ℕ) → may_be_full self.new m q ↔ may_be_full self.old m q };
 
-    /// The key's count, and 0 where the key is not stored.
+    /// The key's count, 0 if the key is not stored.
     fn get(&self, key: u64) -> u64
         requires { key < 2 ^ bits self.now }
         ensures { result ≡ count_at (counts self.now) key };
 
-    /// In which part of the table the key stands, for speed alone: keys of one part are near each other in memory, so
-    /// that whoever goes through keys part by part waits for memory less often. There are at most 1,024 parts.
+    /// The part of the table that has the key. It matters only for speed: keys of one part are near each other in
+    /// memory, so going through keys part by part waits for memory less often. There are at most 1,024 parts.
     fn part_of(&self, key: u64) -> u32
         requires { key < 2 ^ bits self.now }
         ensures few { result < most_parts }
@@ -92,7 +92,7 @@ pub trait Counts {
         ensures told { IfOk result (λ v. AreRowsOf (counts self.now) v.items) }
         ensures in_range { IfOk result (λ v. All (λ row. row.0 < 2 ^ bits self.now) v.items) };
 
-    /// The greatest count of a key, and 0 where nothing was counted. It looks at each key once and takes no memory.
+    /// The greatest count of a key, 0 if nothing was counted. It looks at each key once and takes no memory.
     fn greatest(&self) -> u64
         ensures { IsGreatestCount (counts self.now) result };
 }

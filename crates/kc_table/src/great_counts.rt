@@ -1,4 +1,4 @@
-//! The counts that their slots have no room for.
+//! The counts that are too large for their slots.
 ghost use Rattle.std.specs.Prelude.{◌≡◌, ◌≢◌, ℕ, ◌+◌, ◌*◌, ◌<◌, ◌≤◌, [], ◌∷◌, ◌++◌, length, replicate};
 ghost use Rattle.std.specs.Prelude.{IfOk, IfSome, IfNone, vec_capacity};
 ghost use Rattle.kc_table.specs.GreatCounts.{counts_in, great_count, place_at, bucket_of, IsLinked, IsChained};
@@ -7,7 +7,7 @@ use std::alloc::{AllocError, Global};
 use std::marker::Model;
 
 /// A count, under the index of its slot. The entries of a bucket are linked, from the last one to the first: `next` is
-/// one more than the index of the one before, and 0 where there is none.
+/// one more than the index of the one before, or 0 if there is none.
 #[derive(Clone, Copy)]
 struct Entry {
     place: usize,
@@ -15,8 +15,8 @@ struct Entry {
     next: usize,
 }
 
-/// Counts by the indices of their slots. Each has an entry, and `heads` has the link to the last entry of each bucket.
-/// The room of all entries is taken at once, but is memory only where there are any; no later call takes any.
+/// Counts by the indices of their slots. Each has an entry, and `heads` links to the last entry of each bucket. The
+/// capacity for all entries is reserved at once, and becomes memory only as they come; no later call reserves any.
 #[derive(Drop)]
 pub(crate) struct GreatCounts {
     entries: Vec<Entry>,
@@ -39,7 +39,7 @@ impl Model for GreatCounts {
 }
 
 impl GreatCounts {
-    /// No counts yet, in the room for one at each of the places.
+    /// No counts yet, with room for one at each of the places.
     pub fn new(alloc: Global, places: usize) -> Result<GreatCounts, AllocError>
         ensures places { IfOk result (λ g. g.places ≡ places) }
         ensures none { IfOk result (λ g. (place : ℕ) → great_count g.counts place ≡ 0) }
@@ -50,7 +50,7 @@ impl GreatCounts {
         Ok(GreatCounts { entries, heads })
     }
 
-    /// The count of a place, 0 where there is none.
+    /// The count of a place, 0 if there is none.
     pub fn count(&self, place: usize) -> u64
         ensures { result ≡ great_count self.now.counts place }
     {
@@ -104,7 +104,7 @@ fn bucket_of(buckets: usize, place: usize) -> usize
     place & (buckets - 1)
 }
 
-// Adds an entry behind the others. Where they outnumber the heads these become twice as many, if there is room.
+// Adds an entry after the others. If there are then more entries than heads, the heads are doubled, if there is room.
 fn add_entry(heads: &mut Vec<usize>, entries: &mut Vec<Entry>, place: usize, count: u64)
     requires chained { IsChained heads.old.items entries.old.items }
     requires room { length entries.old.items < vec_capacity entries.old }
@@ -126,7 +126,7 @@ fn add_entry(heads: &mut Vec<usize>, entries: &mut Vec<Entry>, place: usize, cou
     }
 }
 
-// Links an entry, before which all are linked and behind which none is.
+// Links an entry; all before it are linked, and none after it.
 fn link(heads: &mut Vec<usize>, entries: &mut Vec<Entry>, index: usize)
     requires in_range { index < length entries.old.items }
     requires some { 0 < length heads.old.items }
@@ -142,7 +142,7 @@ fn link(heads: &mut Vec<usize>, entries: &mut Vec<Entry>, index: usize)
     heads[bucket] = index + 1;
 }
 
-// Makes twice as many heads, none of which leads to an entry.
+// Doubles the heads; none of them links to an entry.
 fn double(heads: &mut Vec<usize>)
     requires { length heads.old.items * 2 ≤ vec_capacity heads.old }
     ensures none { heads.new.items ≡ replicate (length heads.old.items * 2) 0 }
@@ -155,7 +155,7 @@ fn double(heads: &mut Vec<usize>)
     }
 }
 
-// Links all entries, of which none is linked.
+// Links all entries, none of which is linked.
 fn link_all(heads: &mut Vec<usize>, entries: &mut Vec<Entry>)
     requires some { 0 < length heads.old.items }
     requires none { heads.old.items ≡ replicate (length heads.old.items) 0 }

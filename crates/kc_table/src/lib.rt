@@ -1,11 +1,12 @@
-//! The finite map from keys to counts, and the tables that are such a map.
+//! The finite map from keys to counts, and tables that implement it.
 //!
-//! [`Counts`] is the trait that callers build on; each table keeps its clauses. [`QuotientTable`] is the table to count
-//! with: slots that hold only the part of a key that the slot's index does not give, grown by doubling. [`PlainCounts`]
-//! is the same map in a `BTreeMap`, to compare with, and [`LimitedCounts`] one that refuses keys as a test chooses.
+//! [`Counts`] is the trait for callers; each table has its clauses. [`QuotientTable`] is the table to count with: its
+//! slots store only the part of a key that the slot's index does not determine, and it grows by doubling.
+//! [`PlainCounts`] is the same map in a `BTreeMap`, for comparison, and [`LimitedCounts`] one that refuses keys as a
+//! test chooses.
 //!
-//! `count` counts a key, which it stores where it is new, and returns the new count. It is refused where the table may
-//! not grow, and then leaves each count as it was. `uncount` takes one away again. `rows` gives the keys that were
+//! `count` counts a key, which it stores if it is new, and returns the new count. It is refused if the table may not
+//! grow, and then leaves each count unchanged. `uncount` decreases a count again. `rows` gives the keys that were
 //! counted:
 //!
 //! ```ignore
@@ -30,7 +31,7 @@ mod table_fault;
 mod tag;
 
 pub use counts::Counts;
-/// Counts the slots that `QuotientTable::find` reads. Contracts alone see how many.
+/// Counts the slots that `QuotientTable::find` reads. Only contracts see the number.
 pub use kc_lemmas::Counter as Steps;
 pub use limited_counts::LimitedCounts;
 pub use plain_counts::PlainCounts;

@@ -1,4 +1,4 @@
-//! A map that takes so many keys and no more, for tests.
+//! A map with a limited number of keys, for tests.
 ghost use Rattle.std.specs.Prelude.{◌≡◌, ℕ, ◌+◌, ◌<◌, ◌≤◌, ◌^◌, ◌↔◌, IsOk, IfOk, OnOk, OnErr};
 ghost use Rattle.std.specs.FinMap as map;
 ghost use Rattle.kc_table.specs.Counts.{KeyCounts, IsStored, count_at, readied, added};
@@ -11,7 +11,7 @@ use crate::table_fault::TableFault;
 use std::alloc::{AllocError, Global};
 use std::marker::Model;
 
-/// A `PlainCounts` for tests: where it has `limit` keys it answers `refusal` to a new key.
+/// A `PlainCounts` for tests: if it has `limit` keys, it returns `refusal` for a new one.
 #[derive(Drop)]
 pub struct LimitedCounts {
     plain: PlainCounts,
@@ -35,7 +35,7 @@ impl Model for LimitedCounts {
 }
 
 impl LimitedCounts {
-    /// An empty map whose keys have this number of bits, for so many keys.
+    /// An empty map for keys of this number of bits, and for so many keys.
     pub fn new(alloc: Global, bits: u32, limit: u64, refusal: TableFault) -> Self
         requires { bits ≤ most_bits }
         ensures { result ≡ record { bits = bits; counts = map.empty; limit = limit; refusal = refusal } }
@@ -64,7 +64,7 @@ impl Counts for LimitedCounts {
         self.plain.key_bits()
     }
 
-    /// Stores the key, as the trait says. Where the map has as many keys as it takes, a new key is refused.
+    /// Stores the key, as in the trait. If the map has as many keys as it may, a new key is refused.
     fn ready(&mut self, key: u64) -> Result<(), TableFault>
         requires { key < 2 ^ self.old.bits }
         ensures known { IsStored self.old.counts key → IsOk result }
@@ -88,7 +88,7 @@ impl Counts for LimitedCounts {
         Ok(())
     }
 
-    /// Counts the key, as the trait says. Where the map has as many keys as it takes, a new key is refused.
+    /// Counts the key, as in the trait. If the map has as many keys as it may, a new key is refused.
     fn count(&mut self, key: u64) -> Result<u64, TableFault>
         requires in_range { key < 2 ^ self.old.bits }
         requires room { count_at self.old.counts key < 2 ^ count_bits }

@@ -1,4 +1,4 @@
-//! Rows of numbers that take half the memory where they are small.
+//! Lists of numbers that take half the memory if the numbers are small.
 ghost use Rattle.std.specs.Prelude.{◌≡◌, ◌^◌, ◌<◌, ◌≤◌, IfOk, length, replicate, slice_index_or, slice_set};
 ghost use Rattle.std.specs.Prelude.{vec_capacity};
 ghost use Rattle.kc_table.specs.Numbers.{width_of, numbers_in, room_of};
@@ -6,7 +6,7 @@ ghost use Rattle.kc_table.specs.Numbers.{width_of, numbers_in, room_of};
 use kc_lemmas::zeros;
 use std::alloc::{AllocError, Global};
 
-/// A row of numbers of 32 bits, or of 64.
+/// A list of numbers of 32 bits, or of 64.
 #[derive(Drop)]
 pub(crate) enum Numbers {
     Narrow(Vec<u32>),
@@ -14,7 +14,7 @@ pub(crate) enum Numbers {
 }
 
 impl Numbers {
-    /// `count` zeros, in room for these alone: numbers of 32 bits where so many bits are enough, and else of 64.
+    /// `count` zeros, in room for these alone: numbers of 32 bits if `bits` are enough, otherwise of 64.
     pub fn zeros(alloc: Global, bits: u32, count: usize) -> Result<Numbers, AllocError>
         ensures narrow { bits ≤ 32 → IfOk result (λ row. width_of row ≡ 32) }
         ensures wide { 32 < bits → IfOk result (λ row. width_of row ≡ 64) }

@@ -1,4 +1,4 @@
-//! The slots of a table packed into one number each, with the great counts beside them.
+//! The slots of a table, each packed into one number, with the great counts beside them.
 ghost use Rattle.std.specs.Prelude.{◌≡◌, ◌≢◌, ◌+◌, ◌-◌, ◌^◌, ◌<◌, ◌≤◌, IfOk, length, replicate, slice_set};
 ghost use Rattle.kc_table.specs.Packing.{ArePlacesFor};
 ghost use Rattle.kc_table.specs.Sizes.{count_bits, most_log};
@@ -6,18 +6,18 @@ ghost use Rattle.kc_table.specs.Slot.{tag_at, slot_count, empty_slot};
 
 use crate::great_counts::GreatCounts;
 use crate::number_rows::Numbers;
-use crate::sizes::LEAST_COUNT_BITS;
+use crate::sizes::MIN_COUNT_BITS;
 use crate::tag::Tag;
 use std::alloc::{AllocError, Global};
 use std::marker::Model;
 
-// From how many slots on a table has room for at least `GREAT_ROOM` great counts.
+// A table with this many slots or more has room for at least `GREAT_ROOM` great counts.
 const MANY_SLOTS: usize = 1 << 18;
 
 const GREAT_ROOM: usize = 1 << 21;
 
-/// The slots of a table, one behind another. A slot's number has the tag in its high bits, and below it `low` bits for
-/// the count. Where these are all 1 the count stands in `great`, under the slot's index.
+/// The slots of a table, one after another. A slot's number has the tag in its high bits, and below it `low` bits for
+/// the count. If these are all 1, the count is in `great`, under the slot's index.
 #[derive(Drop)]
 pub(crate) struct PackedSlots {
     low: u32,
@@ -41,8 +41,8 @@ impl Model for PackedSlots {
 }
 
 impl PackedSlots {
-    /// 2^log empty slots with so many bits for a tag. Their numbers have 32 bits where that leaves some for a count,
-    /// and else 64.
+    /// 2^log empty slots with so many bits for a tag. Their numbers have 32 bits if that leaves some for a count,
+    /// otherwise 64.
     pub fn empty(alloc: Global, tag_bits: u32, log: u32) -> Result<PackedSlots, AllocError>
         requires some_bits { 0 < tag_bits }
         requires few_bits { tag_bits ≤ 64 }
@@ -52,7 +52,7 @@ impl PackedSlots {
     {
         let count = 1 << log;
         let great = GreatCounts::new(alloc, room_for_great(count))?;
-        let bits = (tag_bits + LEAST_COUNT_BITS).min(64);
+        let bits = (tag_bits + MIN_COUNT_BITS).min(64);
         let numbers = Numbers::zeros(alloc, bits, count)?;
         let low = numbers.width() - tag_bits;
         Ok(PackedSlots {
@@ -108,7 +108,7 @@ impl PackedSlots {
         }
     }
 
-    /// Adds one to the count in a slot that is not empty, and tells the new count.
+    /// Adds one to the count in a slot that is not empty, and returns the new count.
     #[inline(always)]
     pub fn add_one(&mut self, index: usize) -> u64
         requires in_range { index < length self.old.items }
@@ -130,7 +130,7 @@ impl PackedSlots {
         }
     }
 
-    // Adds one to the count in a slot, whose count becomes a great one if it is not.
+    // Adds one to the count in a slot; it becomes a great count if it is not one already.
     #[cold]
     #[inline(never)]
     fn add_one_beside(&mut self, index: usize) -> u64
@@ -149,7 +149,7 @@ impl PackedSlots {
         raised
     }
 
-    /// Takes one away from the count in a slot that is not empty.
+    /// Decreases the count in a slot that is not empty.
     #[inline(always)]
     pub fn remove_one(&mut self, index: usize)
         requires in_range { index < length self.old.items }
@@ -170,12 +170,12 @@ impl PackedSlots {
     }
 }
 
-// For how many great counts there is room beside so many slots. It is address space, and memory only where there are
-// any.
+// For how many great counts there is room beside so many slots. This is address space, which becomes memory only as
+// they come.
 //
-// A block above 32 MB that is freed goes back to the system. Once a smaller one was freed, the C library (glibc) takes
-// blocks up to that size from a heap, where hash tables that have grown leave gaps: a third of a count's peak. So the
-// room is as large as that, or too small to matter.
+// A freed block above 32 MB goes back to the system. Once a smaller one was freed, the C library (glibc) takes blocks
+// up to that size from a heap, where hash tables that have grown leave gaps: a third of a count's peak. So the room is
+// either that large, or too small to matter.
 fn room_for_great(slots: usize) -> usize
     ensures { ArePlacesFor slots result }
 {

@@ -1,4 +1,4 @@
-//! The finite map as a `BTreeMap`, to compare the hash table with.
+//! The finite map as a `BTreeMap`, for comparison with the hash table.
 ghost use Rattle.std.specs.Prelude.{◌≡◌, ◌+◌, ◌<◌, ◌≤◌, ◌^◌, IfOk, filter, fold, max, nat_lt};
 ghost use Rattle.std.specs.Ordering.{nat_cmp};
 ghost use Rattle.std.specs.BTreeMap.{IsOrdered, values};
@@ -37,7 +37,7 @@ impl Model for PlainCounts {
 }
 
 impl PlainCounts {
-    /// An empty map whose keys have this number of bits.
+    /// An empty map for keys of this number of bits.
     pub fn new(alloc: Global, bits: u32) -> Self
         requires { bits ≤ most_bits }
         ensures { result ≡ record { bits = bits; counts = map.empty } }
@@ -137,7 +137,7 @@ impl Counts for PlainCounts {
     }
 }
 
-// The entries whose count is at least 1, in the keys' order.
+// The entries with a count of at least 1, in the order of the keys.
 fn counted_entries(alloc: Global, map: &BTreeMap<u64, u64>) -> Result<Vec<(u64, u64)>, AllocError>
     ensures entries { IfOk result (λ v. v.items ≡ filter (λ e. nat_lt 0 e.1) map.now.entries) }
     ensures ordered { IsOrdered nat_cmp map.now }
@@ -148,7 +148,7 @@ fn counted_entries(alloc: Global, map: &BTreeMap<u64, u64>) -> Result<Vec<(u64, 
         .collect(alloc)
 }
 
-// The greatest of the values, 0 where there is none.
+// The greatest of the values, 0 if there is none.
 fn greatest_value(map: &BTreeMap<u64, u64>) -> u64
     ensures greatest { result ≡ fold max 0 (values map.now) }
     ensures ordered { IsOrdered nat_cmp map.now }
@@ -157,7 +157,7 @@ fn greatest_value(map: &BTreeMap<u64, u64>) -> u64
     for value in map.values() {
         greatest = greatest.max(*value);
     }
-    // for the proof: what is known of the order of the keys
+    // for the proof: facts about the order of the keys
     let _count = map.len();
     greatest
 }

@@ -19,9 +19,9 @@ use kc_lemmas::Counter;
 use std::alloc::{AllocError, Global};
 use std::marker::Model;
 
-/// The map as a table of 2^log slots, which grows up to 2^max_log. A slot is a number that holds a tag, which is the
-/// remainder of a key and its number of reprobes, and the key's count; the slot's index gives the rest of the key. A
-/// count that is too great for its slot stands apart.
+/// The map as a table of 2^log slots, which grows up to 2^max_log. A slot is a number with a tag, which is the
+/// remainder of a key and its number of reprobes, and the key's count; the slot's index determines the rest of the key.
+/// A count that is too large for its slot is stored elsewhere.
 #[derive(Drop)]
 pub struct QuotientTable {
     alloc: Global,
@@ -71,15 +71,15 @@ impl QuotientTable {
         })
     }
 
-    /// The table has 2^log slots.
+    /// The logarithm of the number of slots.
     pub fn log(&self) -> u32
         ensures { result ≡ self.now.log }
     {
         self.slots.log
     }
 
-    /// The slot that holds the key. The key's places are read in their order, up to the one that holds it or is
-    /// empty, so at most 63 slots. It takes no memory.
+    /// The slot of the key. The key's places are read in order, up to the one that has it or is empty, so at most 63
+    /// slots. It takes no memory.
     #[inline]
     pub fn find(&self, key: u64, steps: &mut Counter) -> Option<u64>
         requires { key < 2 ^ self.now.bits }
@@ -98,7 +98,7 @@ impl QuotientTable {
         }
     }
 
-    // The key's count, and 0 where the key is not stored. All slots that it reads the tag of are those of one find.
+    // The key's count, 0 if the key is not stored. The only tags that it reads are those of one find.
     #[inline(always)]
     fn get_by_one_find(&self, key: u64, steps: &mut Counter) -> u64
         requires { key < 2 ^ self.now.bits }
@@ -111,8 +111,8 @@ impl QuotientTable {
         }
     }
 
-    // Counts the key at its place, which may be a free one, and returns the new count. None where its places all hold
-    // other keys. All slots that it reads the tag of are those of one find.
+    // Counts the key at its place, which may be a free one, and returns the new count. None if all its places have
+    // other keys. The only tags that it reads are those of one find.
     #[inline(always)]
     fn count_by_one_find(&mut self, key: u64, steps: &mut Counter) -> Option<u64>
         requires in_range { key < 2 ^ self.old.bits }
@@ -140,7 +140,7 @@ impl QuotientTable {
         }
     }
 
-    // Counts a key whose places all hold other keys, in a larger table.
+    // Counts a key whose places all have other keys, in a larger table.
     #[cold]
     #[inline(never)]
     fn count_in_larger(&mut self, key: u64) -> Result<u64, TableFault>
@@ -157,7 +157,7 @@ impl QuotientTable {
         ensures smallest { (log : ℕ) → self.old.log ≤ log → log < self.new.log
             → MayBeTooSmall self.old.bits log (counts_in self.old.slots) key }
     {
-        self.slots = self.slots.grown(self.alloc, key, 1, self.max_log)?;
+        self.slots = self.slots.to_larger_with(self.alloc, key, 1, self.max_log)?;
         Ok(1)
     }
 }
@@ -177,8 +177,8 @@ impl Counts for QuotientTable {
         self.slots.bits
     }
 
-    /// Stores the key, as the trait says. The table grows only where other keys stand at all places of this one, and
-    /// then to the smallest size at which neither this key nor a stored one finds all its places taken.
+    /// Stores the key, as in the trait. The table grows only if all places of the key have other keys, and then to the
+    /// smallest size at which neither this key nor a stored one finds all its places taken.
     #[inline]
     fn ready(&mut self, key: u64) -> Result<(), TableFault>
         requires { key < 2 ^ self.old.bits }
@@ -207,14 +207,14 @@ impl Counts for QuotientTable {
                 Ok(())
             }
             Reprobing::Crowded => {
-                self.slots = self.slots.grown(self.alloc, key, 0, self.max_log)?;
+                self.slots = self.slots.to_larger_with(self.alloc, key, 0, self.max_log)?;
                 Ok(())
             }
         }
     }
 
-    /// Counts the key, as the trait says, and looks for it once. The table grows only where `ready` would make it grow,
-    /// and to the same size.
+    /// Counts the key, as in the trait, and looks for it once. The table grows only if `ready` would make it grow, and
+    /// to the same size.
     #[inline]
     fn count(&mut self, key: u64) -> Result<u64, TableFault>
         requires in_range { key < 2 ^ self.old.bits }
@@ -243,7 +243,7 @@ impl Counts for QuotientTable {
         }
     }
 
-    /// Takes one away from the key's count, as the trait says. The table keeps its size.
+    /// Decreases the key's count, as in the trait. The table keeps its size.
     #[inline]
     fn uncount(&mut self, key: u64)
         requires in_range { key < 2 ^ self.old.bits }
@@ -264,7 +264,7 @@ impl Counts for QuotientTable {
         1 << self.slots.log
     }
 
-    /// Adds one to the key's count, as the trait says. The table keeps its size.
+    /// Adds one to the key's count, as in the trait. The table keeps its size.
     #[inline]
     fn add(&mut self, key: u64)
         requires in_range { key < 2 ^ self.old.bits }
@@ -287,7 +287,7 @@ impl Counts for QuotientTable {
         self.get_by_one_find(key, &mut Counter::zero())
     }
 
-    /// The part of the table in which the key's home is.
+    /// The part of the table with the key's home.
     #[inline]
     fn part_of(&self, key: u64) -> u32 {
         let home = key as usize & ((1 << self.slots.log) - 1);

@@ -1,9 +1,9 @@
-//! What is found at a key's places.
+//! What a search finds at a key's places.
 
 use crate::tag::Tag;
 
-/// What reprobing, the walk over a key's places, found: the key, the first place that is free with the
-/// key's tag there, or 63 other keys.
+/// The result of reprobing, the walk over a key's places: the key; or the first free place, with the key's tag there;
+/// or 63 other keys.
 #[derive(Drop)]
 pub(crate) enum Reprobing {
     Found { place: usize },

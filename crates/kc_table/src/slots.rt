@@ -1,4 +1,4 @@
-//! A table of fixed size, whose slots hold a key's remainder, its number of reprobes and its count.
+//! A table of fixed size, whose slots have a key's remainder, its number of reprobes and its count.
 ghost use Rattle.std.specs.Prelude.{◌≡◌, ◌≢◌, ℕ, ◌+◌, ◌-◌, ◌<◌, ◌≤◌, ◌^◌, length, true, false, None};
 ghost use Rattle.std.specs.Prelude.{IfOk, IfSome, IfNone, Some};
 ghost use Rattle.std.specs.FinMap.{empty, insert, get};
@@ -31,7 +31,7 @@ pub(crate) struct Slots {
 impl Slots {
     ghost use Rattle.kc_table.specs.Slots.{key_counts, slot_list, slot_tags, counted_entries, HasRoom};
 
-    /// A table whose slots are empty.
+    /// A table of empty slots.
     pub fn empty(alloc: Global, bits: u32, log: u32) -> Result<Slots, AllocError>
         requires few_bits { bits ≤ most_bits }
         requires few_slots { log ≤ most_log }
@@ -45,8 +45,8 @@ impl Slots {
         Ok(Slots { bits, log, slots })
     }
 
-    /// Walks over the key's places up to the key itself or a free one. A slot is never emptied, so
-    /// the key stands behind no free place.
+    /// Walks over the key's places up to the key itself or a free one. A slot is never emptied, so the key is not after
+    /// a free place.
     #[inline(always)]
     pub fn reprobe(&self, key: u64, steps: &mut Counter) -> Reprobing
         requires { key < 2 ^ self.now.bits }
@@ -61,7 +61,7 @@ impl Slots {
             let wanted = Tag {
                 number: remainder * TAG_STEP + (i as u64 + 1),
             };
-            // `steps` counts each reading of a tag.
+            // `steps` counts each read of a tag.
             *steps = steps.and_one();
             let tag = self.slots.tag(place);
             if tag.number == wanted.number {
@@ -84,16 +84,16 @@ impl Slots {
     {
         let mask = (1 << self.log) - 1;
         let remainder = tag.number / TAG_STEP;
-        // A tag has one more than its number of reprobes.
+        // A tag has its number of reprobes plus 1.
         let reprobes = (tag.number % TAG_STEP) as usize - 1;
         let turn = reprobes * (reprobes + 1) / 2;
-        // The home is `turn` slots before this one, round the start of the table. `mask` is one less than the number of
-        // slots, so that going forward by it goes back by one.
+        // The home is `turn` slots before this one, around the start of the table. `mask` is the number of slots minus
+        // 1, so going forward by it goes back by one.
         let home = (index + mask * turn) & mask;
         (remainder << self.log) + home as u64
     }
 
-    /// Stores a key that is not stored yet. Answers false, and stores nothing, where all its places are taken.
+    /// Stores a key that is not stored yet. Returns false, and stores nothing, if all its places are taken.
     #[inline(always)]
     pub fn take(&mut self, key: u64, count: u64) -> bool
         requires in_range { key < 2 ^ self.old.bits }
@@ -113,8 +113,8 @@ impl Slots {
         }
     }
 
-    /// The same keys and counts in a table of 2^log slots; None where a key has no free place there.
-    pub fn resized(&self, alloc: Global, log: u32) -> Result<Option<Slots>, AllocError>
+    /// The same keys and counts in a table of 2^log slots; None if a key has no free place there.
+    pub fn to_size(&self, alloc: Global, log: u32) -> Result<Option<Slots>, AllocError>
         requires few_slots { log ≤ most_log }
         requires no_wider { log ≤ self.now.bits }
         requires remainder_fits { self.now.bits ≤ log + remainder_bits }
@@ -138,9 +138,9 @@ impl Slots {
         Ok(Some(table))
     }
 
-    /// The smallest larger table, of up to 2^max_log slots, that takes all keys of this one and one
-    /// new key with its count.
-    pub fn grown(
+    /// The smallest larger table, of up to 2^max_log slots, that has room for all keys of this one and for one new key
+    /// with its count.
+    pub fn to_larger_with(
         &self,
         alloc: Global,
         key: u64,
@@ -162,7 +162,7 @@ impl Slots {
         ensures full { result ≡ Err TableFault.Full → MayBeTooSmall self.now.bits max_log (key_counts self.now) key }
     {
         for log in self.log + 1..max_log + 1 {
-            let Ok(resized) = self.resized(alloc, log) else {
+            let Ok(resized) = self.to_size(alloc, log) else {
                 return Err(TableFault::Memory);
             };
             let Some(mut table) = resized else {
@@ -175,12 +175,12 @@ impl Slots {
         Err(TableFault::Full)
     }
 
-    /// Each key whose count is at least 1, with its count. The room for them is asked for once.
+    /// Each key with a count of at least 1, with its count. The room for them is asked for once.
     pub fn entries(&self, alloc: Global) -> Result<Vec<(u64, u64)>, AllocError>
         ensures entries { IfOk result (λ v. v.items ≡ counted_entries self.now) }
         ensures bounded { IfOk result (λ v. vec_capacity v ≤ length (counted_entries self.now)) }
     {
-        let mut entries = Vec::with_capacity(alloc, self.counted())?;
+        let mut entries = Vec::with_capacity(alloc, self.entry_count())?;
         for index in 0..1 << self.log {
             let Some(entry) = self.entry(index) else {
                 continue;
@@ -191,7 +191,7 @@ impl Slots {
     }
 
     // How many keys have a count of at least 1.
-    fn counted(&self) -> usize
+    fn entry_count(&self) -> usize
         ensures { result ≡ length (counted_entries self.now) }
     {
         let mut counted = 0;
@@ -204,7 +204,7 @@ impl Slots {
         counted
     }
 
-    // The key in a slot and its count, where that is at least 1.
+    // The key in a slot and its count, if that is at least 1.
     #[inline(always)]
     fn entry(&self, index: usize) -> Option<(u64, u64)>
         requires { index < 2 ^ self.now.log }
@@ -222,7 +222,7 @@ impl Slots {
         Some((self.key_at(index, tag), count))
     }
 
-    /// The greatest count, 0 where there is none.
+    /// The greatest count, 0 if there is none.
     pub fn greatest(&self) -> u64
         ensures { IsGreatestCount (key_counts self.now) result }
     {

@@ -1,7 +1,7 @@
-//! The faults of a table: why it takes no new key.
+//! The faults of a table: why it refuses a new key.
 use thiserror::Error;
 
-/// Why `ready` was refused. Both leave the map as it was.
+/// Why `ready` was refused. Both faults leave the map unchanged.
 #[derive(Clone, Copy, Debug, Drop, Eq, Error, PartialEq)]
 pub enum TableFault {
     /// All places of a key are taken, and the table may not grow.

@@ -1,9 +1,9 @@
-//! The tag of a slot: the remainder of its key and which of the key's places it is.
+//! The tag of a slot: the remainder of its key, and the number of the key's place.
 
 use std::marker::Model;
 
-/// What a slot says of its key, as a number: 0 where the slot is empty, else the key's remainder times `TAG_STEP` and
-/// one more than its number of reprobes.
+/// What a slot has of its key, as a number: 0 if the slot is empty, otherwise the key's remainder times `TAG_STEP`,
+/// plus its number of reprobes, plus 1.
 #[derive(Clone, Copy)]
 pub(crate) struct Tag {
     pub number: u64,

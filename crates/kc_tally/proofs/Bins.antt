@@ -11,7 +11,7 @@ use Rattle.kc_tally.specs.declared.row.Row.{Row}
 use Rattle.kc_tally.specs.Tally.{total_of}
 use Rattle.kc_tally.specs.Histogram.{last_bin, bin_of, bin_size, bins_of, bin_at, gained, lost, raised, counted_in, joined_bins, counts_of, bin_count}
 
--- 1 where the bin is this one
+-- 1 if the bin is this one
 abbrev pub one_at : ℕ → ℕ → ℕ
 one_at bin other = cond (eqb bin other) 1 0
 
@@ -115,7 +115,7 @@ bin_of-some count h = omega (arith, h)
 bin_of-most : (count : ℕ) → bin_of count ≤ last_bin
 bin_of-most count = omega arith
 
--- ---- one count more
+-- ---- one more count
 
 pub counted_in-none : (bins : List ℕ) (count : ℕ) → count ≡ 0 → counted_in bins count ≡ bins
 unfolding counted_in
@@ -259,8 +259,8 @@ IsJoinedTo-all i old others new same all joined =
     ext_get_or 0 new (joined_bins old others) (joined.long ∙ sym (length-joined_bins old others same))
     (λ k h. joined.front k (let long = joined.long in omega (arith, h, long, all)) ∙ sym (get_or-joined_bins old others k same))
 
--- a step of the joining of bins: the old ones, the others, the new ones as far as they are made, and the sizes that are read
--- at an index of the new ones and of the others
+-- a step of the joining of bins: the old ones, the others, the new ones as far as they are made, and the sizes that are
+-- read at an index of the new ones and of the others
 pub record JoinStep (old others new : List ℕ) : Type 0 where
   pub index : ℕ
   pub size : ℕ
@@ -289,7 +289,7 @@ joined-fits old others new s fits joined =
 
 -- ---- the histogram of rows
 
--- bins as many words fuller as there are counts, and one count more
+-- bins as many words fuller as there are counts, and one more count
 joined-push : (old counts : List ℕ) (count : ℕ) → length old ≡ last_bin
     → counted_in (joined_bins old (bins_of counts)) count ≡ joined_bins old (bins_of (counts ++ count ∷ []))
 joined-push old counts count long =
@@ -327,7 +327,7 @@ joined-none old long =
     let zero_ = bin_size-nil (i + 1) in
     omega (arith, is, none, zero_))
 
--- so many of the rows are counted, one at least is left, and the bins had room for all
+-- so many of the rows are counted, at least one is left, and the bins had room for all
 pub record IsCounting (old bins : List ℕ) (rows : List Row) (i : ℕ) : Type 0 where
   pub long : length old ≡ last_bin
   pub fits : All (λ size. size + length rows < 2 ^ 64) old
@@ -367,7 +367,8 @@ bin_count-is rows bin some within = bin_at-bins_of (counts_of rows) bin some wit
 
 -- ---- for callers: counts that change, that are joined, and that are put in another order
 
--- one of the counts went from `count` to `count + 1`, and the others stayed: however counts are weighed, the lists differ by these two
+-- one of the counts went from `count` to `count + 1`, and the others stayed: however counts are weighed, the lists
+-- differ by these two
 abbrev pub IsOneMore : List ℕ → List ℕ → ℕ → Type 0
 IsOneMore old new count = (h : ℕ → ℕ) → sum_by h new + h count ≡ sum_by h old + h (count + 1)
 

@@ -1,4 +1,4 @@
--- The first rows of a part, and those behind them.
+-- The first rows of a part, and those after them.
 use Rattle.std.proofs.Common.{◌≡◌, ◌∙◌, ℕ, suc, ◌+◌, Bool, true, false, cond, List, [], ◌∷◌, ◌++◌, length, drop}
 use Rattle.std.proofs.Common.{refl, sym, ap, arith}
 use Rattle.std.specs.List.{count_by}
@@ -7,13 +7,13 @@ use Rattle.std.proofs.Math.Seq.{drop-nil}
 use Rattle.kc_tally.specs.declared.row.Row.{Row}
 use Rattle.kc_tally.specs.Packing.{LayoutSeen, is_apart, rows_of, unpacked}
 
--- so many items are left out, and then one more at the front
+-- so many items are skipped, and then one more at the front
 drop-one_more : {X : Type 0} (n : ℕ) (xs : List X) → drop n (drop 1 xs) ≡ drop (suc n) xs
 drop-one_more n [] = drop-nil n ∙ sym (drop-nil (suc n))
 drop-one_more n (x ∷ xs) = refl
 
 module _ (l : LayoutSeen) where
-  -- the large rows of what comes behind one packed row and others
+  -- the large rows of what follows one packed row and others
   left-cons : (b : Bool) (n : ℕ) (large : List Row) → drop n (cond b (drop 1 large) large) ≡ drop (cond b 1 0 + n) large
   left-cons true n large =
       let more : suc n ≡ 1 + n = omega arith in drop-one_more n large ∙ ap (λ m. drop m large) more
@@ -37,7 +37,7 @@ module _ (l : LayoutSeen) where
       ∙ ap (λ behind. rows_of l front left ++ rows_of l rest behind)
       (left-cons (is_apart l p) (count_by (is_apart l) front) large ∙ ap (λ n. drop n large) (sym count)))
 
-  -- the first packed rows and those behind them, where these large rows are left for those
+  -- the first packed rows and those after them, if these large rows are left for those
   pub rows-cut : (packed front rest : List ℕ) (large left : List Row) → packed ≡ front ++ rest
       → left ≡ drop (count_by (is_apart l) front) large
       → rows_of l front large ++ rows_of l rest left ≡ rows_of l packed large

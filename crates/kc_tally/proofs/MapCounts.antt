@@ -21,7 +21,7 @@ no_value : (found : Option ℕ) (n : ℕ) → suc n ≡ cond (is_some found) n (
 no_value None n e = refl
 no_value (Some v) n e = absurd (omega (arith, e))
 
--- the sum of the values, however they are weighed, after a value stands at a key
+-- the sum of the values, under any weights, after a key gets a value
 sum_by-put : (h : ℕ → ℕ) (k v : ℕ) (es : List (ℕ × ℕ)) → T (is_sorted nat_cmp es) → sum_by h (map (λ e. e.1) (put nat_cmp k v es)) + option_map_or h (find nat_cmp k es) 0 ≡ sum_by h (map (λ e. e.1) es) + h v
 sum_by-put h k v [] sorted = let one = sum_by-cons h v [] in omega (arith, one)
 sum_by-put h k v (e ∷ es) sorted =
@@ -47,7 +47,7 @@ sum_by-put h k v (e ∷ es) sorted =
         let new = sum_by-cons h e.1 (map (λ (e : ℕ × ℕ). e.1) (put nat_cmp k v es)) in
         omega (arith, old, new, rest)
 
--- the sum of a map's counts, however they are weighed, after a count stands at a key
+-- the sum of a map's counts, under any weights, after a key gets a count
 pub sum_by-insert : (h : ℕ → ℕ) (m : FinMap nat_cmp ℕ) (key count : ℕ) → sum_by h (values (insert m key count)) + option_map_or h (get m key) 0 ≡ sum_by h (values m) + h count
 sum_by-insert h m key count =
     let put_ = ap (λ es. sum_by h (map (λ (e : ℕ × ℕ). e.1) es)) (entries-insert nat_cmp_total m key count) in
@@ -55,7 +55,7 @@ sum_by-insert h m key count =
     let sums = sum_by-put h key count (entries m) (entries_sorted m) in
     omega (arith, put_, found, sums)
 
--- a key's count is one more than before, or 1 where it had none: two bins move
+-- a key's count is one more than before, or 1 if it had none: two bins move
 pub bins_of-one_more : (m : FinMap nat_cmp ℕ) (key : ℕ) → raised (bins_of (values m)) (unwrap_or (get m key) 0) ≡ bins_of (values (insert m key (unwrap_or (get m key) 0 + 1)))
 bins_of-one_more m key = by (get m key) (λ h count. sum_by-insert h m key count)
   where

@@ -49,7 +49,7 @@ word_fits least low packed few room small =
     shr_below packed (64 - low) low (subst (λ n. packed < 2 ^ n) split small) in
     omega (arith, above, room)
 
--- so many bits are left by a span of words, whose highest bit is this one
+-- so many bits are left by a span of words with this highest bit
 pub record IsSpan (least greatest highest : ℕ) : Type 0 where
   pub order : least ≤ greatest
   pub small : greatest < 2 ^ 62
@@ -238,7 +238,7 @@ module _ (l : LayoutSeen) where
       (cases_Bool (is_large l row)))
       (cases_eq row.word n)
 
-  -- rows that rise still rise where some are left out
+  -- ascending rows still rise if some are left out
   rises-lower : (low high : ℕ) (rows : List Row) → low ≤ high → RisesFrom high rows → RisesFrom low rows
   unfolding RisesFrom
   rises-lower low high [] le up = tt

@@ -15,11 +15,11 @@ use Rattle.kc_tally.specs.Packing.{LayoutSeen, is_large, packed_row, large_rows,
 
 -- ---- the least and the greatest word
 
--- a row's word is this one, of so many rows
+-- one of so many rows has this word
 abbrev IsThere : List Row → ℕ → ℕ → Type 0
 IsThere rows i word = (k : ℕ) × (k < i) × ((get_or rows k (row_of 0 0)).word ≡ word)
 
--- so many rows were looked at, whose words are within these
+-- so many rows were looked at, with words in this range
 pub record IsWithin (rows : List Row) (i least greatest : ℕ) : Type 0 where
   pub lower : All (λ row. least ≤ row.word) (take i rows)
   pub upper : All (λ row. row.word ≤ greatest) (take i rows)
@@ -176,7 +176,7 @@ module _ (l : LayoutSeen) where
 
 -- ---- parts
 
--- one part more stands first
+-- one more part is first
 pub from_last-push : (parts : List (List Row)) (part : List Row) → rows_from_last (parts ++ part ∷ []) ≡ part ++ rows_from_last parts
 from_last-push parts part = ap (flat_map (λ (p : List Row). p)) (reverse-append parts (part ∷ []))
 
@@ -184,7 +184,7 @@ from_last-push parts part = ap (flat_map (λ (p : List Row). p)) (reverse-append
 pub rest : (rows : List Row) (at : ℕ) → take (length rows - at) (drop at rows) ≡ drop at rows
 rest rows at = let long = length-drop at rows in take_all (length rows - at) (drop at rows) (omega (arith, long))
 
--- the rows from a place on are packed in front of the others
+-- the rows from a place on are packed before the others
 pub record IsPackedFrom (rows before after : List Row) (packed : List (List Row)) : Type 0 where
   pub same : before ++ rows_from_last packed ≡ rows ++ after
   pub words : All (λ row. row.word < 2 ^ 62) before

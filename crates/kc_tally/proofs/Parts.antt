@@ -1,4 +1,4 @@
--- Rows in parts, one part after another.
+-- Rows in parts, part after part.
 use Rattle.std.proofs.Common.{◌≡◌, ℕ, ◌+◌, ◌-◌, ◌^◌, ◌<◌, ◌≤◌, Bool, true, false, cond, List, [], ◌∷◌, ◌++◌, length, get_or, take, drop, filter, All, refl, ap, sym, ◌∙◌, arith}
 use Rattle.std.specs.Prelude.{nat_lt}
 use Rattle.std.specs.List.{flat_map}
@@ -35,7 +35,7 @@ module _ {P : Type 0} (items : P → List Row) where
       → length (flat_map items (take (i + 1) parts)) ≡ length (flat_map items (take i parts)) + length (items (get_or parts i d))
   long-next parts i d h = ap length (parts-next parts i d h) ∙ length-append (flat_map items (take i parts)) (items (get_or parts i d))
 
-  -- one part more, of the rows up to an end
+  -- one more part, of the rows up to an end
   pub parts-on : (parts : List P) (part : P) (rows : List Row) (at end : ℕ) → at ≤ end → flat_map items parts ≡ take at rows
       → items part ≡ take (end - at) (drop at rows) → flat_map items (parts ++ part ∷ []) ≡ take end rows
   parts-on parts part rows at end le so_far is =

@@ -1,4 +1,4 @@
--- The search for a word in rows that rise, and in parts of them.
+-- The search for a word in ascending rows, and in parts of them.
 use Rattle.std.proofs.Common.{◌≡◌, ◌≢◌, ℕ, zero, suc, ◌+◌, ◌-◌, ◌<◌, ◌≤◌, true, false, cond, eqb, List, [], ◌∷◌, ◌++◌, map, length, get_or, take, drop, All, refl, sym, ◌∙◌, ap, subst, arith, eq-eqb, ne_eqb, Result, Ok, Err, ⊎_elim}
 use Rattle.std.specs.Prelude.{MatchResult, nat_lt}
 use Rattle.std.specs.List.Sorted.{IsStrictlyIncreasing, IsSearchInRange, IsBinarySearchResult, IsNonDecreasingBy, IsPartitionPoint, IsPartitionedBy}
@@ -128,7 +128,7 @@ before front back m h =
     let long = length-map front word in
     ap (λ xs. get_or xs m 0) (map-append word front back) ∙ get_or_append_left (words front) (words back) 0 m (omega (arith, h, long))
 
--- the rows before a part, its own, and those behind it
+-- the rows before a part, its own, and those after it
 joined-around : (parts : List (List Row)) (i : ℕ) (d : List Row) → i < length parts
     → all_rows parts ≡ (all_rows (take i parts) ++ (get_or parts i d)) ++ all_rows (drop (i + 1) parts)
 joined-around parts i d h =
@@ -160,7 +160,7 @@ part-rises parts i d are h k within =
     let step = climbs (words (all_rows parts)) are.rising (at + k) (at + (k + 1)) (omega arith) (omega (arith, within, short, long, next, front)) in
     omega (arith, first, second, step)
 
--- where the last row of a part stands
+-- where the last row of a part is
 last_place : (parts : List (List Row)) (i : ℕ) (d : List Row) → ArePartsThatRise parts → i < length parts
     → get_or (words (all_rows parts)) (length (all_rows (take (i + 1) parts)) - 1) 0 ≡ last_word (get_or parts i d)
 last_place parts i d are h =

@@ -18,7 +18,7 @@ use Rattle.kc_tally.proofs.Bins.{length-bins_of, get_or-bins_of, bin_count-is}
 one_or_later : (n bin : ℕ) → cond (eqb bin (n + 1)) 1 0 + cond (nat_lt (n + 1) bin) 1 0 ≡ cond (nat_lt n bin) 1 0
 one_or_later n bin = grind (arith, nat_tests)
 
--- how many of the counts fall in a bin behind the first n
+-- how many of the counts fall in a bin after the first n
 behind : ℕ → List ℕ → ℕ
 behind n counts = count_by (λ count. nat_lt n (bin_of count)) counts
 
@@ -49,7 +49,7 @@ past_last n count last = grind (arith, nat_tests, last)
 in_some : (count : ℕ) → 1 ≤ count → nat_lt 0 (bin_of count) ≡ true
 in_some count some = grind (arith, nat_tests, some)
 
--- a word for each count, where none is 0
+-- a word for each count, if none is 0
 pub bins-sum : (bins counts : List ℕ) → bins ≡ bins_of counts → All (λ count. 1 ≤ count) counts → sum bins ≡ length counts
 unfolding behind
 bins-sum bins counts are present =

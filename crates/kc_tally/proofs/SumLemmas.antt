@@ -100,7 +100,7 @@ taken {k} {w} {both} before after count are (inr t) = record {
   long = let same = ap length t.0 in omega (arith, same);
 }
 
--- the word has a row, which stands first: its count is taken
+-- the word has a row, which is first: its count is taken
 pub record IsHere (k w : ℕ) (both : Bool) (before after : List Row) (count : ℕ) : Type 0 where
   pub some : 1 ≤ count
   pub below : w < 4 ^ k
@@ -367,7 +367,7 @@ sum-both first second rest rests same = record {
   whole = refl;
 }
 
--- what the code knows of the row that it makes of two
+-- what the code knows of the row that it makes from two
 pub record IsJoined (first second row : Row) : Type 0 where
   pub lesser : first.word < second.word → row ≡ first
   pub greater : second.word < first.word → row ≡ second
@@ -412,7 +412,7 @@ pub same-in_parts : {rows others part part_ x y rest rests : List Row} {first se
     → first.word ≡ second.word → TakesSum rows (rest ++ x) others (rests ++ y) row
 same-in_parts {rows} {others} at at_ is same = rw (begun at, begun at_) (sum-same is same)
 
--- and where the code computes how many are taken of each part
+-- the same, with the computed numbers of rows that each part loses
 pub sum-in_parts : {rows others part part_ p q x y rest rests : List Row} {first second row : Row}
     → InParts rows part x first rest → InParts others part_ y second rests → IsJoined first second row
     → p ≡ cond (leb first.word second.word) (drop 1 part) part

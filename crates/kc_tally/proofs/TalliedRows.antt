@@ -54,7 +54,7 @@ count_of-absent (first ∷ rows) n below =
 wider : (n : ℕ) (rows : List Row) → All (λ row. row.word < n) rows → All (λ row. row.word < n + 1) rows
 wider n rows below k d h = let less = below k d h in omega (arith, less)
 
--- a row behind others that have lesser words
+-- a row after others that have lesser words
 pub ordered_push : (n count : ℕ) (rows : List Row) → 0 < count → AreOrderedRows n rows → AreOrderedRows (n + 1) (rows ++ row_of n count ∷ [])
 ordered_push n count rows some ordered = record {
   rising = subst IsStrictlyIncreasing (sym (map_push (λ (row : Row). row.word) rows (row_of n count)))

@@ -1,4 +1,4 @@
--- Rows that count the list of all words are the tally, which is one, and how much it holds.
+-- Rows that count the list of all words are the tally, which is unique, and how large it is.
 use Rattle.std.proofs.Common.{◌≡◌, ℕ, zero, suc, ◌+◌, ◌^◌, ◌<◌, ◌≤◌, ⊎_elim, cond, eqb, List, [], ◌∷◌, ◌++◌, map, length, get_or, sum_by, All, filter, refl, ap, sym, ◌∙◌, subst, arith, eq-eqb, ne_eqb, zero-add, not, le_refl}
 use Rattle.std.proofs.lemmas.Bool.{cases_lt, cases_eq, cases_order, cond-true, cond-false}
 use Rattle.std.proofs.lemmas.List.{length-map}
@@ -36,7 +36,7 @@ rises-from low [] rising first = tt
 rises-from low (row ∷ rows) rising first =
     (first (omega arith), rises-from (suc row.word) rows (λ k h. let e : suc k + 1 ≡ suc (k + 1) = omega arith in subst (λ m. get_or (map (λ (r : Row). r.word) rows) k 0 < get_or (row.word ∷ map (λ (r : Row). r.word) rows) m 0) e (rising (suc k) (let l : suc k + 1 < suc (length (map (λ (r : Row). r.word) rows)) = omega (arith, h) in l))) (λ h. rising 0 (let long = length-map rows (λ (r : Row). r.word) in omega (arith, h, long))))
 
--- the rows of a tally: rising from a number on, with numbers below a bound and counts above 0
+-- the rows of a tally: ascending from a number on, with numbers below a bound and counts above 0
 pub record RiseWithin (low bound : ℕ) (rows : List Row) : Type 0 where
   pub rises : RisesFrom low rows
   pub below : All (λ row. row.word < bound) rows
@@ -188,7 +188,7 @@ one_sum k rows others sums more is also =
     one_tally-rows (4 ^ k) 0 sums more (ordered-RiseWithin (4 ^ k) sums is.ordered)
     (ordered-RiseWithin (4 ^ k) more also.ordered) (λ n h. is.counts n h ∙ sym (also.counts n h))
 
--- ---- how much a tally holds
+-- ---- how large a tally is
 
 -- without the number of the first row, the list has the counts of the other rows
 times-removed : (m n : ℕ) (xs : List ℕ) → (m ≡ n → ⊥) → times n (filter (λ x. not (eqb x m)) xs) ≡ times n xs
@@ -264,7 +264,7 @@ one_value rule reads tally other is also =
     let rows : tally.rows ≡ other.rows = one_tally rule reads tally.rows other.rows is.rows also.rows in
     λ i. record { k = k i; both = both i; rows = rows i }
 
--- a number that is counted stands in the list
+-- a number that is counted is in the list
 holds-counted : (P : ℕ → Type 0) (xs : List ℕ) (n : ℕ) → All P xs → 1 ≤ times n xs → P n
 holds-counted P [] n all some = absurd (omega (arith, some))
 holds-counted P (x ∷ xs) n all some =
@@ -274,7 +274,7 @@ holds-counted P (x ∷ xs) n all some =
     (λ ne. let here : ℕ = cond (eqb x n) 1 0 in let none : here ≡ 0 = ap (λ b. cond b 1 0) (ne_eqb x n ne) in holds-counted P xs n (λ i d h. all (suc i) d (omega (arith, h))) (omega (arith, some, split, none)))
     (cases_eq x n)
 
--- each row is what the rows say of its word
+-- each row has the rows' count of its word
 rises-above : (low : ℕ) (rows : List Row) → RisesFrom low rows → All (λ row. low ≤ row.word) rows
 unfolding RisesFrom
 rises-above low [] rises i d h = absurd (omega (arith, h))

@@ -14,7 +14,7 @@ use Rattle.kc_tally.specs.Tally.{row_of, IsTally}
 use Rattle.kc_tally.specs.Histogram.{counts_of}
 use Rattle.kc_tally.proofs.TalliedRows.{IsTalliedTo, IsTalliedTo-none, IsTalliedTo-yes, IsTalliedTo-no, IsTalliedTo-all}
 
--- the rows of the words below n, whose counts weigh what the occurrences of these words weigh, where none weighs nothing
+-- the rows of the words below n, whose counts weigh what the occurrences of these words weigh, if none weighs nothing
 record HasRows (rule : CountingRule) (reads : List Read) (n : ℕ) : Type 0 where
   pub rows : List Row
   pub tallied : IsTalliedTo rule reads n rows

@@ -1,4 +1,4 @@
--- What holds of tallies, whatever the reads are.
+-- Facts about tallies, for all reads.
 use Rattle.std.specs.Prelude.{◌≡◌, ℕ, ◌^◌, ◌≤◌, List, ◌++◌, length}
 use Rattle.kc_fastx.specs.Reads.{Read, base_count}
 use Rattle.kc_kmer.specs.Rule.{CountingRule}
@@ -12,12 +12,12 @@ abbrev pub OneTally : Type 0
 OneTally = (rule : CountingRule) (reads : List Read) (rows others : List Row)
     → IsTally rule reads rows → IsTally rule reads others → rows ≡ others
 
--- and one value
+-- and it is one value
 abbrev pub OneValue : Type 0
 OneValue = (rule : CountingRule) (reads : List Read) (tally other : TallySeen)
     → IsTallyOf rule reads tally → IsTallyOf rule reads other → tally ≡ other
 
--- the tally of reads that are joined is the sum of the tallies of both parts
+-- the tally of joined reads is the sum of the tallies of both parts
 abbrev pub JoinedTally : Type 0
 JoinedTally = (rule : CountingRule) (reads more : List Read) (rows others sums : List Row)
     → IsTally rule reads rows → IsTally rule more others → IsTally rule (reads ++ more) sums
@@ -33,7 +33,7 @@ SummedTally = (rule : CountingRule) (reads more : List Read) (tally other sum : 
 abbrev pub OneSum : Type 0
 OneSum = (k : ℕ) (rows others sums more : List Row) → IsSum k rows others sums → IsSum k rows others more → sums ≡ more
 
--- the counts of a tally add up to the number of all words, and are together at most the number of bases
+-- the counts of a tally add up to the number of all words, and to at most the number of bases
 abbrev pub TallyTotal : Type 0
 TallyTotal = (rule : CountingRule) (reads : List Read) (rows : List Row)
     → IsTally rule reads rows → total_of rows ≡ length (words_of rule reads)

@@ -12,7 +12,7 @@ use Rattle.kc_tally.specs.declared.row.Row.{Row}
 abbrev pub row_of : ℕ → ℕ → Row
 row_of word count = record { word = word; count = count }
 
--- the count beside the word n, 0 where no row has it
+-- the count of the word n, 0 if no row has it
 abbrev pub count_of : List Row → ℕ → ℕ
 count_of [] n = 0
 count_of (row ∷ rows) n = if row.word == n then row.count else count_of rows n
@@ -21,14 +21,14 @@ count_of (row ∷ rows) n = if row.word == n then row.count else count_of rows n
 abbrev pub total_of : List Row → ℕ
 total_of rows = sum_by (λ row. row.count) rows
 
--- rows in the order of their words, whose numbers are below the bound, each with a count of at least 1
+-- rows in the order of their words, which are below the bound, each with a count of at least 1
 pub record AreOrderedRows (bound : ℕ) (rows : List Row) : Type 0 where
   pub rising : IsStrictlyIncreasing (map (λ row. row.word) rows)
   pub words : All (λ row. row.word < bound) rows
   pub present : All (λ row. 1 ≤ row.count) rows
 
--- the rows that a tally of words of k bases may have: each word in the form under which it counts, and at most 2 ^
--- 62 counted
+-- the rows that a tally of words of k bases may have: each word is in the form under which it counts, and the counts
+-- add up to at most 2 ^ 62
 pub record AreRows (k : ℕ) (both : Bool) (rows : List Row) : Type 0 where
   pub ordered : AreOrderedRows (4 ^ k) rows
   pub forms : All (λ row. form both (text k row.word) ≡ text k row.word) rows

@@ -10,13 +10,13 @@ use kc_kmer::K;
 use std::alloc::{AllocError, Global};
 use std::marker::Model;
 
-/// Rows that grow at their end, seen as their list. All but the last ones are packed, so that they take half the memory
-/// of rows.
+/// Rows that grow at their end. Their view is the list of them. All but the last ones are packed, so they take half the
+/// memory of rows.
 #[derive(Drop)]
 pub struct GrowingRows {
     alloc: Global,
     packed: Vec<PackedRows>,
-    // those behind the packed ones, at most as many as a part has, and some where any row is packed
+    // the rows after the packed ones: at most as many as a part has, and at least one if any row is packed
     rows: Vec<Row>,
 }
 
@@ -46,8 +46,8 @@ impl GrowingRows {
         }
     }
 
-    /// Puts a row behind the others. Where memory is refused they stay as they are. Conditions: its word is below 2^62,
-    /// and its count at least 1.
+    /// Appends a row to the others. If memory is refused they are unchanged. Conditions: its word is below 2^62, and
+    /// its count at least 1.
     pub fn push(&mut self, row: Row) -> Result<(), AllocError>
         requires word { row.word < 2 ^ 62 }
         requires present { 1 ≤ row.count }
@@ -86,7 +86,7 @@ impl GrowingRows {
         row_count(&self.packed) + self.rows.len() as u64
     }
 
-    /// The tally of these rows. Condition: they are such as `Tally::of_rows` takes.
+    /// The tally of these rows. Condition: they are such as `Tally::of_rows` accepts.
     pub fn into_tally(self, k: K, both: bool) -> Result<Tally, AllocError>
         requires { AreRows k both self }
         ensures { IfOk result (λ tally. tally ≡ record { k = k; both = both; rows = self }) }
@@ -102,7 +102,7 @@ impl GrowingRows {
     }
 }
 
-// Makes room for one row more, where there is none: for as many again, and for no more than a part has.
+// Makes room for one more row, if there is none: for as many again, but for at most as many as a part has.
 #[inline(always)]
 fn make_room(rows: &mut Vec<Row>) -> Result<(), AllocError>
     requires fewer { length rows.old.items < PART_ROWS }

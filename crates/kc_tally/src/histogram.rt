@@ -12,11 +12,11 @@ use kc_lemmas::zeros;
 use std::alloc::{AllocError, Global};
 use std::marker::Model;
 
-// The number of the bins, and of the last one.
+// The number of bins, and of the last one.
 const LAST_BIN: u64 = 10_001;
 
-/// The sizes of the bins 1 to 10,001. A count from 1 to 10,000 has a bin of its own, and all greater ones have the last
-/// in common.
+/// The sizes of the bins 1 to 10,001. A count from 1 to 10,000 has a bin of its own, and all greater ones share the
+/// last.
 #[derive(Drop)]
 pub struct Histogram {
     bins: Vec<u64>,
@@ -34,7 +34,7 @@ impl Model for Histogram {
 }
 
 impl Histogram {
-    /// The histogram of no words. Its memory is taken here.
+    /// The histogram of no words. This takes its memory.
     pub fn new(alloc: Global) -> Result<Histogram, AllocError>
         ensures { IfOk result (λ bins. bins ≡ bins_of []) }
     {
@@ -86,7 +86,7 @@ impl Histogram {
         &self.bins
     }
 
-    /// How many words have a count that falls in the bin. Condition: the bin is 1 to 10,001.
+    /// How many words have a count in the bin. Condition: the bin is 1 to 10,001.
     pub fn bin(&self, bin: u64) -> u64
         requires some { 1 ≤ bin }
         requires within { bin ≤ last_bin }
@@ -95,8 +95,8 @@ impl Histogram {
         self.bins[(bin - 1) as usize]
     }
 
-    /// One word's count went from `count` to `count + 1`: the word leaves its bin, where it was in one, and comes into
-    /// the bin of `count + 1`. Conditions: a word is in the bin that it leaves, and the size of the other one fits.
+    /// One word's count went from `count` to `count + 1`: the word moves from its bin, if it was in one, to the bin of
+    /// `count + 1`. Conditions: there is a word in the bin that it leaves, and the size of the other one fits.
     pub fn raise(&mut self, count: u64)
         requires some { 1 ≤ count → 1 ≤ bin_at self.old (bin_of count) }
         requires fits { bin_at self.old (bin_of (count + 1)) + 1 < 2 ^ 64 }
@@ -122,7 +122,7 @@ impl Histogram {
         }
     }
 
-    // Counts in the words of these rows, and gives the sum of their counts, which wraps where it does not fit.
+    // Adds the words of these rows, and returns the sum of their counts, which wraps if it does not fit.
     fn count_all(&mut self, rows: &[Row]) -> u64
         requires long { length self.old ≡ last_bin }
         requires fits { All (λ size. size + length rows.now < 2 ^ 64) self.old }
@@ -137,7 +137,7 @@ impl Histogram {
         total
     }
 
-    // Puts a word with this count into its bin. A word with count 0 has none.
+    // Adds a word with this count to its bin. A word with count 0 has none.
     fn count_in(&mut self, count: u64)
         requires { bin_at self.old (bin_of count) + 1 < 2 ^ 64 }
         ensures { self.new ≡ counted_in self.old count }

@@ -1,5 +1,5 @@
-//! How rows stand in numbers of 64 bits: a row's word in the high bits, and its count in those that are left, where it
-//! fits.
+//! How rows are packed into numbers of 64 bits: a row's word in the high bits, and its count in those that are left, if
+//! it fits.
 ghost use Rattle.std.specs.Prelude.{◌≡◌, ◌+◌, ◌-◌, ◌%◌, ◌^◌, ◌<◌, ◌≤◌, max, if◌then◌else◌};
 ghost use Rattle.kc_tally.specs.Packing.{is_large, is_apart, packed_row, word_in, first_count, unpacked};
 
@@ -7,8 +7,8 @@ use crate::row::Row;
 use std::marker::Model;
 
 /// What packed rows have in common: the least of their words, and how many low bits of 64 their counts have. The other
-/// bits say how far a row's word is above the least one. So the rows of one part, whose words are near each other,
-/// leave more bits to their counts than the length of the words does.
+/// bits are a row's word minus the least one. So the rows of one part, with words near each other, leave more bits to
+/// their counts than the length of the words does.
 #[derive(Clone, Copy)]
 pub(crate) struct Layout {
     least: u64,
@@ -59,10 +59,9 @@ impl Layout {
         }
     }
 
-    /// The row in one number, with 0 in place of a count that does not fit. Condition: the layout has room for its
-    /// word.
+    /// The row in one number, with 0 for a count that does not fit. Condition: the layout has room for its word.
     #[inline(always)]
-    pub(crate) fn packed(self, row: Row) -> u64
+    pub(crate) fn pack(self, row: Row) -> u64
         requires least { self.least ≤ row.word }
         requires room { row.word < self.least + 2 ^ (64 - self.low) }
         ensures { result ≡ packed_row self row }
@@ -70,7 +69,7 @@ impl Layout {
         ((row.word - self.least) << self.low) + self.small_count(row)
     }
 
-    // The row's count where it fits, else 0.
+    // The row's count if it fits, otherwise 0.
     #[inline(always)]
     fn small_count(self, row: Row) -> u64
         ensures value { result ≡ (if is_large self row then 0 else row.count) }
@@ -95,7 +94,7 @@ impl Layout {
         self.least + (packed >> self.low)
     }
 
-    /// The count of a packed row, 0 where it does not fit.
+    /// The count of a packed row, 0 if it does not fit.
     #[inline(always)]
     pub(crate) fn count(self, packed: u64) -> u64
         ensures { result ≡ packed % 2 ^ self.low }
@@ -103,7 +102,7 @@ impl Layout {
         packed & ((1 << self.low) - 1)
     }
 
-    /// Whether the count of a packed row does not fit, so that it stands apart.
+    /// Whether the count of a packed row does not fit, so it is in the list of large ones.
     #[inline(always)]
     pub(crate) fn is_apart(self, packed: u64) -> bool
         ensures { result ≡ is_apart self packed }
@@ -111,7 +110,7 @@ impl Layout {
         self.count(packed) == 0
     }
 
-    /// The row that a packed number stands for. `large` has the large rows from this one on.
+    /// The row that a packed number represents. `large` has the large rows from this one on.
     #[inline(always)]
     pub(crate) fn row(self, packed: u64, large: &[Row]) -> Row
         ensures { result ≡ unpacked self packed large.now }
@@ -125,7 +124,7 @@ impl Layout {
     }
 }
 
-// The count of the first of the large rows, 0 where there is none.
+// The count of the first of the large rows, 0 if there is none.
 #[inline(always)]
 fn first_count(large: &[Row]) -> u64
     ensures { result ≡ first_count large.now }

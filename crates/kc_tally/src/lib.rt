@@ -1,12 +1,12 @@
 //! Tallies of DNA k-mers (words of length k): how often each word occurs in reads, the histogram of these counts, and
 //! their total.
 //!
-//! A `Tally` is made of its rows, a `Row` for each word that occurs, in rising order of the words. They may come in
+//! A `Tally` is made of its rows, a `Row` for each word that occurs, in ascending order of the words. They may come in
 //! parts. It keeps nearly every row in one number of 64 bits. `bin`, `total` and `count_of` are then functions of the
-//! rows. A `Histogram` stands alone where words are still counted: it moves with each count that is raised, and
-//! histograms of parts add up. `Statistics` are four numbers about a tally, which need no rows where its histogram is
-//! known. `slow_tally::tally` counts small examples straight from the definitions, and `tally_laws` says what holds of
-//! every tally.
+//! rows. While words are still counted there is a `Histogram` alone: it changes with each count that grows, and
+//! histograms of parts add up. `Statistics` are four numbers about a tally, which need no rows if its histogram is
+//! known. `slow_tally::tally` counts small examples straight from the definitions, and `tally_laws` has laws of every
+//! tally.
 //!
 //! ```ignore
 //! let rows = [

@@ -14,11 +14,12 @@ use crate::search::count_in;
 use std::alloc::{AllocError, Global};
 use std::marker::Model;
 
-/// A part has at most so many rows. The fewer they are, the nearer are their words, and so more counts fit beside them.
+/// The greatest number of rows of a part. The fewer there are, the nearer are their words, and the more counts fit
+/// beside them.
 pub(crate) const PART_ROWS: usize = 1 << 16;
 
-/// The rows of one part, each in one number of 64 bits. A count that does not fit there stands with its row in a second
-/// list, in the order of the rows.
+/// The rows of one part, each in one number of 64 bits. A row with a count that does not fit is also in a second list,
+/// in the order of the rows.
 #[derive(Drop)]
 pub struct PackedRows {
     layout: Layout,
@@ -55,8 +56,8 @@ impl PackedRows {
         })
     }
 
-    /// The rows that stand in these numbers, and the large ones among them. Condition: `packed` has rows in this
-    /// layout, and `large` those of them whose counts don't fit, in order.
+    /// The rows in these numbers, and the large ones among them. Condition: `packed` has rows in this layout, and
+    /// `large` those of them with counts that don't fit, in order.
     pub(crate) fn of_words(layout: Layout, packed: Vec<u64>, large: Vec<Row>) -> PackedRows
         requires { ArePacked layout packed.items large.items }
         ensures { result ≡ rows_of layout packed.items large.items }
@@ -83,7 +84,7 @@ impl PackedRows {
         PartRows::new(self.layout, &self.packed, &self.large)
     }
 
-    /// The word of the last row, 0 where there is none.
+    /// The word of the last row, 0 if there is none.
     pub(crate) fn last_word(&self) -> u64
         ensures { result ≡ last_word self.now }
     {
@@ -93,7 +94,7 @@ impl PackedRows {
         }
     }
 
-    /// The count of a word, 0 where it has no row. Condition: the words rise.
+    /// The count of a word, 0 if it has no row. Condition: the words ascend.
     pub(crate) fn count_of(&self, word: u64) -> u64
         requires { IsStrictlyIncreasing (map (λ row. row.word) self.now) }
         ensures { result ≡ count_of self.now word }
@@ -108,7 +109,7 @@ impl PackedRows {
         }
     }
 
-    // The count of the word, whose row is the one at the index. Condition: the words rise.
+    // The count of the word, whose row is the one at the index. Condition: the words ascend.
     fn count_at(&self, index: usize, word: u64) -> u64
         requires within { index < length self.now }
         requires rising { IsStrictlyIncreasing (map (λ row. row.word) self.now) }
@@ -123,8 +124,8 @@ impl PackedRows {
     }
 }
 
-/// The rows, packed in parts of some of them. They are packed from the last one on, so that their memory is given back
-/// bit by bit. Conditions: the words are below 2^62, and each count is at least 1.
+/// The rows, packed in parts. They are packed from the last one on, so their memory is freed step by step. Conditions:
+/// the words are below 2^62, and each count is at least 1.
 pub(crate) fn packed_parts(alloc: Global, mut rows: Vec<Row>) -> Result<Vec<PackedRows>, AllocError>
     requires words { All (λ row. row.word < 2 ^ 62) rows.items }
     requires present { All (λ row. 1 ≤ row.count) rows.items }
@@ -157,7 +158,7 @@ fn layout_for(rows: &[Row]) -> Layout
     Layout::between(least.min(greatest), greatest)
 }
 
-// The rows in one word each, in room for these alone.
+// The rows in one number each, with room for these alone.
 fn packed_words(alloc: Global, layout: Layout, rows: &[Row]) -> Result<Vec<u64>, AllocError>
     requires least { All (λ row. layout.least ≤ row.word) rows.now }
     requires room { All (λ row. row.word < layout.least + 2 ^ (64 - layout.low)) rows.now }
@@ -166,12 +167,12 @@ fn packed_words(alloc: Global, layout: Layout, rows: &[Row]) -> Result<Vec<u64>,
 {
     let mut packed = Vec::with_capacity(alloc, rows.len())?;
     for row in rows {
-        packed.push_reserved(layout.packed(*row));
+        packed.push_reserved(layout.pack(*row));
     }
     Ok(packed)
 }
 
-// The rows whose counts do not fit, in room for these alone.
+// The rows with counts that do not fit, with room for these alone.
 fn large_rows(alloc: Global, layout: Layout, rows: &[Row]) -> Result<Vec<Row>, AllocError>
     ensures all { IfOk result (λ large. large.items ≡ large_rows layout rows.now) }
     ensures bounded { IfOk result (λ large. vec_capacity large ≤ length (large_rows layout rows.now)) }

@@ -6,7 +6,7 @@ use crate::layout::Layout;
 use crate::row::Row;
 use std::marker::Model;
 
-/// The rows of a part that are still to come, seen as their list.
+/// The rows of a part that are still to come. Their view is the list of them.
 #[derive(Drop)]
 pub struct PartRows<'a> {
     layout: Layout,
@@ -36,7 +36,7 @@ impl<'a> PartRows<'a> {
         }
     }
 
-    /// The rows that stand in these words, and the large ones among them.
+    /// The rows in these numbers, and the large ones among them.
     #[inline(always)]
     pub(crate) fn new(layout: Layout, packed: &'a [u64], large: &'a [Row]) -> PartRows<'a>
         ensures { result ≡ rows_of layout packed.now large.now }
@@ -48,9 +48,9 @@ impl<'a> PartRows<'a> {
         }
     }
 
-    /// A second walk over these rows, to look at those to come.
+    /// A second walk over these rows, to look ahead.
     #[inline(always)]
-    pub(crate) fn ahead(&self) -> PartRows<'a>
+    pub(crate) fn second_walk(&self) -> PartRows<'a>
         ensures { result ≡ self.now }
     {
         PartRows {
@@ -67,7 +67,7 @@ impl<'a> PartRows<'a> {
         self.packed.len()
     }
 
-    /// The first rows, so many of them, which are used up. Condition: there are so many.
+    /// The first `count` rows, which are used up. Condition: there are so many.
     pub(crate) fn take_front(&mut self, count: usize) -> PartRows<'a>
         requires { count ≤ length self.old }
         ensures rows { result ++ self.new ≡ self.old }
@@ -80,7 +80,7 @@ impl<'a> PartRows<'a> {
         taken
     }
 
-    /// The first row, which stays.
+    /// The first row, which is not used up.
     #[inline(always)]
     pub(crate) fn first(&self) -> Option<Row>
         ensures some { IfSome result (λ row. self.now ≡ row ∷ drop 1 self.now) }
@@ -107,10 +107,9 @@ impl<'a> PartRows<'a> {
         Some(row)
     }
 
-    /// Leaves the first row out, where that is asked: how many are left out is computed, so that no branch depends on
-    /// it.
+    /// Skips the first row, if that is asked for: how many are skipped is computed, so no branch depends on it.
     #[inline(always)]
-    pub(crate) fn pass(&mut self, passed: bool)
+    pub(crate) fn skip_first_if(&mut self, passed: bool)
         ensures { self.new ≡ (if passed then drop 1 self.old else self.old) }
     {
         let Some((first, _)) = self.packed.split_first() else {
@@ -122,7 +121,7 @@ impl<'a> PartRows<'a> {
     }
 }
 
-// The items behind the first, where that is asked and there is one.
+// The items after the first, if that is asked for and there is one.
 #[inline(always)]
 fn without_first<T>(items: &[T], asked: bool) -> &[T]
     ensures { result.now ≡ (if asked then drop 1 items.now else items.now) }
@@ -131,7 +130,7 @@ fn without_first<T>(items: &[T], asked: bool) -> &[T]
     &items[skipped..]
 }
 
-// The large rows of those behind the packed ones, where these are the large ones from the first packed row on.
+// The large rows among those after the packed ones; `large` are the large rows from the first packed one on.
 fn large_behind<'a>(layout: Layout, packed: &[u64], large: &'a [Row]) -> &'a [Row]
     ensures { result.now ≡ drop (count_by (is_apart layout) packed.now) large.now }
 {
@@ -142,7 +141,7 @@ fn large_behind<'a>(layout: Layout, packed: &[u64], large: &'a [Row]) -> &'a [Ro
     &large[passed..]
 }
 
-// How many of the packed rows have a count that stands apart.
+// How many of the packed rows have a count in the list of large ones.
 fn apart_count(layout: Layout, packed: &[u64]) -> usize
     ensures { result ≡ count_by (is_apart layout) packed.now }
 {

@@ -9,7 +9,7 @@ use crate::part_rows::PartRows;
 use crate::row::Row;
 use std::marker::Model;
 
-/// An iterator over the rows of a tally, seen as the list of those still to come.
+/// An iterator over the rows of a tally. Its view is the list of those still to come.
 #[derive(Drop)]
 pub struct Rows<'a> {
     part: PartRows<'a>,
@@ -27,7 +27,7 @@ impl<'a> Model for Rows<'a> {
 }
 
 impl<'a> Rows<'a> {
-    /// The rows of all parts, one part after another.
+    /// The rows of all parts, part after part.
     pub(crate) fn new(parts: &'a [PackedRows]) -> Rows<'a>
         ensures { result ≡ flat_map (λ part. part) parts.now }
     {
@@ -37,20 +37,20 @@ impl<'a> Rows<'a> {
         }
     }
 
-    /// A second walk over these rows, to look at those to come.
+    /// A second walk over these rows, to look ahead.
     #[inline(always)]
-    pub fn ahead(&self) -> Rows<'a>
+    pub fn second_walk(&self) -> Rows<'a>
         ensures { result ≡ self.now }
     {
         Rows {
-            part: self.part.ahead(),
+            part: self.part.second_walk(),
             later: self.later,
         }
     }
 
-    /// The next rows, at most so many of them, which are used up; None where there are no rows. Where they are rows of
-    /// several parts, they are all that is left of the first and the whole of the others, so there may be fewer than
-    /// the most. Condition: one at the least.
+    /// The next rows, at most so many of them, which are used up; None if there are no rows. If they belong to several
+    /// parts, they are all that is left of the first and the whole of the others, so there may be fewer than `most`.
+    /// Condition: `most` is at least one.
     pub fn take_front(&mut self, most: usize) -> Option<Rows<'a>>
         requires { 1 ≤ most }
         ensures rows { IfSome result (λ front. front ++ self.new ≡ self.old) }
@@ -58,7 +58,7 @@ impl<'a> Rows<'a> {
         ensures few { IfSome result (λ front. length front ≤ most) }
         ensures none { IfNone result ((self.old ≡ []) × (self.new ≡ [])) }
     {
-        let (mut part, later) = begun(self.part.ahead(), self.later);
+        let (mut part, later) = skip_empty_parts(self.part.second_walk(), self.later);
         let len = part.len();
         if len == 0 {
             return None;
@@ -79,9 +79,9 @@ impl<'a> Rows<'a> {
         Some(Rows { part, later: whole })
     }
 
-    /// The sum of the next rows of both, of which the one with the lesser word is used up, or both where the words are
-    /// the same. None where a part has to be begun first. Which word is the lesser one can't be predicted, so how far
-    /// each side moves is computed, with few branches.
+    /// The sum of the next rows of both; the one with the lesser word is used up, or both if the words are equal. None
+    /// if a part has to be begun first. Which word is the lesser one can't be predicted, so how far each side moves is
+    /// computed, with few branches.
     #[inline(always)]
     pub(crate) fn take_sum(&mut self, other: &mut Rows<'_>) -> Option<Row>
         requires { total_of self.old + total_of other.old ≤ 2 ^ 62 }
@@ -96,14 +96,14 @@ impl<'a> Rows<'a> {
         };
         let row = joined_row(first, second);
         let (takes_first, takes_second) = (first.word <= second.word, second.word <= first.word);
-        self.part.pass(takes_first);
-        other.part.pass(takes_second);
+        self.part.skip_first_if(takes_first);
+        other.part.skip_first_if(takes_second);
         Some(row)
     }
 }
 
-// The rows of the part and those of the parts behind it, where a part without rows gives way to the next one.
-fn begun<'a>(
+// The rows of the part and those of the parts after it; a part without rows gives way to the next one.
+fn skip_empty_parts<'a>(
     mut part: PartRows<'a>,
     mut later: &'a [PackedRows],
 ) -> (PartRows<'a>, &'a [PackedRows])
@@ -139,7 +139,7 @@ fn whole_parts(parts: &[PackedRows], most: usize) -> usize
     parts.len()
 }
 
-// The row with the lesser word, or of both together where the words are the same.
+// The row with the lesser word, or the sum of both if the words are equal.
 #[inline(always)]
 fn joined_row(first: Row, second: Row) -> Row
     requires { first.count + second.count < 2 ^ 64 }

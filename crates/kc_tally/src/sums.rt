@@ -10,7 +10,7 @@ use crate::rows::Rows;
 use crate::tally::Tally;
 use std::alloc::{AllocError, Global};
 
-// The rows of the sum. Both tallies are gone over once, in the order of words.
+// The rows of the sum. It goes over both tallies once, in the order of words.
 pub(crate) fn summed_rows(
     alloc: Global,
     first: &Tally,
@@ -32,7 +32,7 @@ pub(crate) fn summed_rows(
     Ok(sums)
 }
 
-// The row of the lesser of the next words, which is used up in both.
+// The sum of the rows of the lesser of the next words, which are used up.
 #[inline(always)]
 fn take_sum(firsts: &mut Rows<'_>, seconds: &mut Rows<'_>) -> Option<Row>
     requires { total_of firsts.old + total_of seconds.old ≤ 2 ^ 62 }
@@ -40,14 +40,14 @@ fn take_sum(firsts: &mut Rows<'_>, seconds: &mut Rows<'_>) -> Option<Row>
     ensures none { IfNone result
         (summing.lesser (summing.first_word firsts.old) (summing.first_word seconds.old) ≡ None) }
 {
-    // nearly always both rows are at hand
+    // in nearly all cases both rows are there
     match firsts.take_sum(seconds) {
         Some(row) => Some(row),
         None => take_counts(firsts, seconds),
     }
 }
 
-// The row of the lesser of the next words, where a part has to be begun first, or no row is left.
+// The same, if a part has to be begun first, or no row is left.
 #[inline(always)]
 fn take_counts(firsts: &mut Rows<'_>, seconds: &mut Rows<'_>) -> Option<Row>
     requires { total_of firsts.old + total_of seconds.old ≤ 2 ^ 62 }
@@ -55,7 +55,7 @@ fn take_counts(firsts: &mut Rows<'_>, seconds: &mut Rows<'_>) -> Option<Row>
     ensures none { IfNone result
         (summing.lesser (summing.first_word firsts.old) (summing.first_word seconds.old) ≡ None) }
 {
-    let Some(word) = lesser(first_word(firsts), first_word(seconds)) else {
+    let Some(word) = lesser_word(first_word(firsts), first_word(seconds)) else {
         return None;
     };
     let count = take_count(firsts, word) + take_count(seconds, word);
@@ -67,15 +67,15 @@ fn take_counts(firsts: &mut Rows<'_>, seconds: &mut Rows<'_>) -> Option<Row>
 fn first_word(rows: &Rows<'_>) -> Option<u64>
     ensures { result ≡ summing.first_word rows.now }
 {
-    match rows.ahead().next() {
+    match rows.second_walk().next() {
         Some(row) => Some(row.word),
         None => None,
     }
 }
 
-// The lesser of two words, where there are two.
+// The lesser of two words, if there are two.
 #[inline(always)]
-fn lesser(word: Option<u64>, other: Option<u64>) -> Option<u64>
+fn lesser_word(word: Option<u64>, other: Option<u64>) -> Option<u64>
     ensures { result ≡ summing.lesser word other }
 {
     match (word, other) {
@@ -85,12 +85,12 @@ fn lesser(word: Option<u64>, other: Option<u64>) -> Option<u64>
     }
 }
 
-// The count of the next row, which is used up, where that row has the word; else 0.
+// The count of the next row, which is used up, if that row has the word; otherwise 0.
 #[inline(always)]
 fn take_count(rows: &mut Rows<'_>, word: u64) -> u64
     ensures { TakesCount rows.old rows.new word result }
 {
-    let mut later = rows.ahead();
+    let mut later = rows.second_walk();
     let Some(row) = later.next() else {
         return 0;
     };

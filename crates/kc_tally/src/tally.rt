@@ -1,4 +1,4 @@
-//! A tally: the words that occur, in rising order, each with its count.
+//! A tally: the words that occur, in ascending order, each with its count.
 ghost use Rattle.std.specs.Prelude.{◌≡◌, ◌+◌, ◌≤◌, ◌^◌, All, IfOk, length};
 ghost use Rattle.std.specs.List.{flat_map};
 ghost use Rattle.kc_tally.specs.Tally.{AreRows, count_of, total_of};
@@ -14,13 +14,13 @@ use kc_kmer::K;
 use std::alloc::{AllocError, Global};
 use std::marker::Model;
 
-/// The tally of some reads: the words that occur in them, in rising order, each with its count, and what follows from
-/// them: the histogram and the total of the counts.
+/// The tally of some reads: the words that occur in them, in ascending order, each with its count, and what follows
+/// from them: the histogram and the total of the counts.
 #[derive(Drop)]
 pub struct Tally {
     k: K,
     both: bool,
-    // the rows, one part after another: no part is empty
+    // the rows, part after part: no part is empty
     parts: Vec<PackedRows>,
     histogram: Histogram,
     total: u64,
@@ -45,9 +45,9 @@ impl Model for Tally {
 }
 
 impl Tally {
-    /// The tally of these rows. Condition: they rise by their words, each word is below 4^k and, where both strands
-    /// count, its own canonical form, each count is at least 1, and the counts are together at most 2^62. The rows take
-    /// half the memory here, or little more where counts are large, and the given ones are freed bit by bit.
+    /// The tally of these rows. Condition: their words ascend, each word is below 4^k and, if both strands count, its
+    /// own canonical form, each count is at least 1, and the counts add up to at most 2^62. The rows take half the
+    /// memory here, or little more if counts are large, and the given ones are freed step by step.
     pub fn of_rows(alloc: Global, k: K, both: bool, rows: Vec<Row>) -> Result<Tally, AllocError>
         requires { AreRows k both rows.items }
         ensures { IfOk result (λ tally. tally ≡ record { k = k; both = both; rows = rows.items }) }
@@ -58,8 +58,8 @@ impl Tally {
         Tally::of_packed(alloc, k, both, parts)
     }
 
-    /// The tally of the rows of all packed parts, one part after another, which may be empty. No row is copied.
-    /// Condition: all rows together are such as `of_rows` takes.
+    /// The tally of the rows of all packed parts, part after part; a part may be empty. No row is copied. Condition:
+    /// all rows together are such as `of_rows` accepts.
     pub fn of_packed(
         alloc: Global,
         k: K,
@@ -80,9 +80,8 @@ impl Tally {
         })
     }
 
-    /// The sum of two tallies: each word that has a row in either, with both counts together. Conditions: the words
-    /// have the same length, both tallies count both strands or neither does, and the totals are together at most
-    /// 2^62.
+    /// The sum of two tallies: each word that has a row in either, with the sum of its counts. Conditions: the words
+    /// have the same length, both tallies count both strands or neither does, and the totals add up to at most 2^62.
     pub fn sum(alloc: Global, first: &Tally, second: &Tally) -> Result<Tally, AllocError>
         requires k { first.now.k ≡ second.now.k }
         requires both { first.now.both ≡ second.now.both }
@@ -122,11 +121,11 @@ impl Tally {
         row_count(&self.parts)
     }
 
-    /// The count of a word, 0 where it has no row.
+    /// The count of a word, 0 if it has no row.
     pub fn count_of(&self, word: u64) -> u64
         ensures { result ≡ count_of self.now.rows word }
     {
-        // the first part that does not end below the word
+        // the first part that does not end before the word
         let index = self.parts.partition_point(|part| part.last_word() < word);
         if index < self.parts.len() {
             self.parts[index].count_of(word)
@@ -142,8 +141,8 @@ impl Tally {
         &self.histogram
     }
 
-    /// How many words have a count that falls in the bin: a count from 1 to 10,000 has a bin of its own, and all
-    /// greater ones fall in bin 10,001. Condition: the bin is 1 to 10,001.
+    /// How many words have a count in the bin: a count from 1 to 10,000 has a bin of its own, and all greater ones are
+    /// in bin 10,001. Condition: the bin is 1 to 10,001.
     pub fn bin(&self, bin: u64) -> u64
         requires some { 1 ≤ bin }
         requires within { bin ≤ last_bin }

@@ -31,7 +31,7 @@ pub fn tally_total()
     ensures { TallyTotal }
 {}
 
-/// The counts of a tally are together at most as many as the bases of the reads.
+/// The counts of a tally add up to at most the number of bases of the reads.
 pub fn bounded_tally()
     ensures { BoundedTally }
 {}

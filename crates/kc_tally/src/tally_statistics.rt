@@ -7,8 +7,8 @@ pub struct Statistics {
     pub unique: u64,
     /// How many words occur.
     pub distinct: u64,
-    /// How often all words occur together.
+    /// The sum of the counts of all words.
     pub total: u64,
-    /// The greatest count of a word, 0 where none occurs.
+    /// The greatest count of a word, 0 if none occurs.
     pub greatest: u64,
 }

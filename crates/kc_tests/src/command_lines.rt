@@ -55,7 +55,7 @@ fn run_divided<H: Files + Threads + Wait + Sync + AllocGlobal>(
     })
 }
 
-// Runs a command line whose arguments are divided by blanks.
+// Runs a command line whose arguments are separated by blanks.
 fn run<H: Files + Threads + Wait + Sync + AllocGlobal>(
     rt: &H,
     line: &str,
@@ -92,13 +92,13 @@ fn refuses<H: Files + Threads + Wait + Abort + Sync + AllocGlobal>(
     why: &str,
 ) -> Result<(), Fail> {
     let ran = run(rt, line, input)?;
-    let errors = joined(rt.alloc(), "kcount: ", why, "\n")?;
+    let errors = join_texts(rt.alloc(), "kcount: ", why, "\n")?;
     assert_ran(rt, line, &ran, status, "", errors.as_str());
     Ok(())
 }
 
-// Three parts of a text, one behind the other.
-fn joined(alloc: Global, head: &str, middle: &str, tail: &str) -> Result<String, AllocError> {
+// Three parts of a text, one after the other.
+fn join_texts(alloc: Global, head: &str, middle: &str, tail: &str) -> Result<String, AllocError> {
     format!(in alloc; "{head}{middle}{tail}")
 }
 
@@ -110,11 +110,11 @@ fn count_answers<H: Files + Threads + Wait + Abort + Sync + AllocGlobal>(
     input: &str,
     output: &str,
 ) -> Result<(), Fail> {
-    let line = joined(rt.alloc(), "count ", options, others)?;
+    let line = join_texts(rt.alloc(), "count ", options, others)?;
     answers(rt, line.as_str(), input, output)
 }
 
-// Asserts that a count with these options and these others is refused so.
+// Asserts that a count with these options and these others is refused with this line.
 fn count_refuses<H: Files + Threads + Wait + Abort + Sync + AllocGlobal>(
     rt: &H,
     options: &str,
@@ -123,7 +123,7 @@ fn count_refuses<H: Files + Threads + Wait + Abort + Sync + AllocGlobal>(
     status: u8,
     why: &str,
 ) -> Result<(), Fail> {
-    let line = joined(rt.alloc(), "count ", options, others)?;
+    let line = join_texts(rt.alloc(), "count ", options, others)?;
     refuses(rt, line.as_str(), input, status, why)
 }
 
@@ -196,7 +196,7 @@ fn a_dump_in_lines(rt: HostRuntime) -> Result<(), Fail> {
     answers(&rt, "count -m 3 --print dump", ">r1\nACGTA\n", lines)
 }
 
-// Options of a count, its input, and the table that is written: it tells the floor and the number of all reads.
+// Options of a count, its input, and the table that is written, which has the floor and the number of all reads.
 const TABLES: &[(&str, &str, &str)] = &[
     (
         "-m 3",
@@ -252,7 +252,7 @@ const READINGS: &[(&str, &str)] = &[
 #[test]
 fn tables_of_both_versions_are_read(rt: HostRuntime) -> Result<(), Fail> {
     for header in HEADERS {
-        let table = joined(rt.alloc(), *header, "\nACG 2\nGTA 1\n", "END 2 3\n")?;
+        let table = join_texts(rt.alloc(), *header, "\nACG 2\nGTA 1\n", "END 2 3\n")?;
         assert_read(&rt, table.as_str())?;
     }
     Ok(())
@@ -311,7 +311,7 @@ fn refusals(rt: HostRuntime) -> Result<(), Fail> {
     Ok(())
 }
 
-// Options of a count, and the one that is told of those whose value is outside its limits.
+// Options of a count, and the one that is reported of those with values outside their limits.
 const BAD_OPTIONS: &[(&str, &str)] = &[
     ("-m 32", "--mer-len"),
     ("-m 0", "--mer-len"),
@@ -382,7 +382,7 @@ const BAD_OPTIONS: &[(&str, &str)] = &[
 #[test]
 fn bad_options(rt: HostRuntime) -> Result<(), Fail> {
     for (options, name) in BAD_OPTIONS {
-        let why = joined(rt.alloc(), "51: bad option ", *name, "")?;
+        let why = join_texts(rt.alloc(), "51: bad option ", *name, "")?;
         count_refuses(&rt, *options, "", "ACGT\n", 2, why.as_str())?;
     }
     Ok(())
@@ -452,7 +452,11 @@ const UNKNOWN: &[&str] = &[
     "dump --only a",
     "merge",
     "merge first.kct",
-    "merge first.kct second.kct third.kct",
+    "intersect first.kct",
+    "intersect --counts first.kct second.kct",
+    "subtract first.kct",
+    "subtract --take min first.kct second.kct",
+    "filter first.kct second.kct",
     "merge -C first.kct second.kct",
     "select",
     "select table --min-share",
@@ -472,6 +476,9 @@ const HELP: &[&str] = &[
     "query --help",
     "merge --help",
     "help merge",
+    "intersect --help",
+    "subtract --help",
+    "filter --help",
     "select --help",
     "--version",
 ];
@@ -483,7 +490,7 @@ fn assert_told<H: Abort>(rt: &H, line: &str, ran: &Ran, status: u8, is_answer: b
     assert_same(rt, line, &ran.errors.is_empty(), &is_answer);
 }
 
-// What `clap` refuses ends with status 2 and says so on standard error alone; help goes to the output.
+// What `clap` refuses ends with status 2 and a text on standard error alone; help goes to the output.
 #[test]
 fn command_lines_that_clap_refuses(rt: HostRuntime) -> Result<(), Fail> {
     for line in UNKNOWN {
@@ -495,7 +502,7 @@ fn command_lines_that_clap_refuses(rt: HostRuntime) -> Result<(), Fail> {
     Ok(())
 }
 
-// Command lines, inputs, statuses, and what they say with --explain: the line of the fault, and a second one.
+// Command lines, inputs, statuses, and what they print with --explain: the line of the fault, and a second one.
 const EXPLAINED: &[(&str, &str, u8, &str, &str)] = &[
     (
         "count -m 32",
@@ -528,14 +535,14 @@ const EXPLAINED: &[(&str, &str, u8, &str, &str)] = &[
     ),
 ];
 
-// With --explain a fault is told in a second line too, which begins with two blanks.
+// With --explain a fault has a second line, which begins with two blanks.
 #[test]
 fn faults_explained(rt: HostRuntime) -> Result<(), Fail> {
     for (line, input, status, why, more) in EXPLAINED {
-        let asked = joined(rt.alloc(), *line, " --explain", "")?;
+        let asked = join_texts(rt.alloc(), *line, " --explain", "")?;
         let ran = run(&rt, asked.as_str(), *input)?;
-        let first = joined(rt.alloc(), "kcount: ", *why, "\n  ")?;
-        let errors = joined(rt.alloc(), first.as_str(), *more, "\n")?;
+        let first = join_texts(rt.alloc(), "kcount: ", *why, "\n  ")?;
+        let errors = join_texts(rt.alloc(), first.as_str(), *more, "\n")?;
         assert_ran(&rt, *line, &ran, *status, "", errors.as_str());
     }
     Ok(())

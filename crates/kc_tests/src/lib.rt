@@ -1,5 +1,5 @@
-//! Tests that cross the crates: whole command lines, lists of sources and of words, tables that are put together, and
-//! sources and writers that fail.
+//! Tests that cross the crates: whole command lines, lists of sources and of words, tables that are added, and sources
+//! and writers that fail.
 #![tactic(auto)]
 
 #[cfg(test)]

@@ -28,7 +28,7 @@ pub(crate) const BOTH: How = How {
     floor: b'!',
 };
 
-// Options to count so, and to write this report.
+// Options of a count, and of its report.
 pub(crate) fn options_of<H: Abort>(rt: &H, how: How, print: Print) -> Result<Options, Fail> {
     let floor = how.floor;
     assert!(rt; 33 <= floor && floor <= 126);
@@ -77,7 +77,7 @@ const LISTED: &[(How, &str, &[&str], &str)] = &[
         &[ACGTA, ">x\nacgNAA\n"],
         "ACG 2\nGTA 1\n",
     ),
-    // the word of the other strand is the same word where both count
+    // the word of the other strand is the same word if both count
     (BOTH, ">w\nTAC\n", &[ACGTA], "GTA 1\n"),
     (BOTH, ">w\nACG\n>x\nCGT\n", &[ACGTA], "ACG 2\n"),
     (PLAIN, ">w\nTAC\n", &[ACGTA], ""),
@@ -156,7 +156,7 @@ const REPORTS: &[(&str, Print, &str)] = &[
     (">w\nCGT\n>x\nAAA\n", Print::Histo, "1 1\n"),
 ];
 
-// A table says that a list was given; the reads of the list are not among those that it counts.
+// A table records that a list was given; the reads of the list are not among those that it counts.
 #[test]
 fn reports_on_listed_words(rt: HostRuntime) -> Result<(), Fail> {
     for (row, (list, print, text)) in REPORTS.iter().enumerate() {
@@ -166,7 +166,7 @@ fn reports_on_listed_words(rt: HostRuntime) -> Result<(), Fail> {
     Ok(())
 }
 
-// A list, the inputs, and the fault that is told, with the number of its source.
+// A list, the inputs, and the fault that is reported, with the number of its source.
 const FAULTY_LISTS: &[(&str, &[&str], u64, FastxFault)] = &[
     ("ACG\n", &[ACGTA], 0, FastxFault::BadStart(1)),
     (">w\nA@C\n", &["ACGT\n"], 0, FastxFault::BadBase(2)),
@@ -208,7 +208,7 @@ fn count_with_a_slow_list<H: Threads + Wait + Abort + Sync + AllocGlobal>(
     Ok(counted_of(rt, alloc, only, sources, &options))
 }
 
-// A list that fails at a read is answered as such, and nothing is written.
+// If a read of the list fails, that is returned, and nothing is written.
 #[test]
 fn slow_and_failing_lists(rt: HostRuntime) -> Result<(), Fail> {
     let failed = Err(fault_of(0, FastxFault::Read));
@@ -221,7 +221,7 @@ fn slow_and_failing_lists(rt: HostRuntime) -> Result<(), Fail> {
     Ok(())
 }
 
-// Asserts what is answered and written where the list fails at its n-th read.
+// Asserts what is returned and written if the list fails at its n-th read.
 fn assert_slow_list<H: Threads + Wait + Abort + Sync + AllocGlobal>(
     rt: &H,
     n: usize,

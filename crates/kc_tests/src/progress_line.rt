@@ -1,4 +1,4 @@
-//! What is told while a count works, and the line that shows it.
+//! What is reported while a count works, and the line with it.
 use crate::command_lines::words_of;
 use crate::written_bytes::{assert_bytes, assert_same};
 use kc_fastx::FromBytes;
@@ -16,7 +16,7 @@ use std::test::Fail;
 use std::thread::Threads;
 use std::time::{Clock, Duration};
 
-// A clock that is set by hand, and can't be read where it is broken.
+// A clock that is set by hand, and can't be read if it is broken.
 #[derive(Drop)]
 struct SetClock {
     millis: AtomicU64,
@@ -61,7 +61,7 @@ impl Screen {
     }
 
     // What was written since it was asked before.
-    fn taken<H: AllocGlobal>(&self, rt: &H) -> Result<Vec<u8>, Fail> {
+    fn take_bytes<H: AllocGlobal>(&self, rt: &H) -> Result<Vec<u8>, Fail> {
         match self.taken.try_replace(Vec::new(rt.alloc())) {
             Ok(taken) => Ok(taken),
             Err(_) => Err(Fail::from("borrowed")),
@@ -92,7 +92,7 @@ impl Print for Screen {
     }
 }
 
-// What a command tells.
+// What a command reports.
 #[derive(Clone, Copy)]
 enum Told {
     ToFile,
@@ -120,7 +120,7 @@ fn tell<P: Progress>(progress: &P, told: Told) {
     }
 }
 
-// After how many milliseconds what is told, and what is then written.
+// After how many milliseconds there is a report, and what is then written.
 type Line = (u64, Told, &'static str);
 
 const LINES: &[Line] = &[
@@ -157,7 +157,7 @@ const LINES: &[Line] = &[
     (3_700_000, Told::Ends, ""),
 ];
 
-// What is told of a count that is over soon, and the line that is shown then.
+// The reports of a count that is over soon, and the line that is shown then.
 const NO_LINES: &[Line] = &[
     (0, Told::Read(1_000_000), ""),
     (100, Told::Batches(1), ""),
@@ -165,7 +165,7 @@ const NO_LINES: &[Line] = &[
     (125, Told::Ends, ""),
 ];
 
-// What is told where it is known, or not, how many bytes there are.
+// The reports if the number of bytes is known, and if it is not.
 const PERCENTAGES: &[Line] = &[
     (0, Told::Have(Some(3_000_000)), ""),
     (1_000, Told::Read(0), "\rread 0 MB (0%), 1 s\x1b[K"),
@@ -205,7 +205,7 @@ const PERCENTAGES: &[Line] = &[
     (10_000, Told::Ends, "\r\x1b[K"),
 ];
 
-// What is told of a selection whose reads go to a file, and of one whose reads go to standard output.
+// The reports of a selection with reads that go to a file, and of one with reads that go to standard output.
 const SELECTION: &[Line] = &[
     (0, Told::ToFile, ""),
     (0, Told::Begins(Stage::Tables), "\rreading tables\x1b[K"),
@@ -234,7 +234,7 @@ const SELECTION_SHOWN: &[Line] = &[
     (9_000, Told::Ends, ""),
 ];
 
-// What is told of a command that reads tables, then reads, and then writes a text that goes to a file.
+// The reports of a command that reads tables, then reads, and then writes a text that goes to a file.
 const STAGES: &[Line] = &[
     (0, Told::ToFile, ""),
     (0, Told::Begins(Stage::Tables), "\rreading tables\x1b[K"),
@@ -249,7 +249,7 @@ const STAGES: &[Line] = &[
     (9_002, Told::Ends, ""),
 ];
 
-// What is told where the text goes to standard output.
+// The reports if the text goes to standard output.
 const TEXT_SHOWN: &[Line] = &[
     (0, Told::Begins(Stage::Tables), "\rreading tables\x1b[K"),
     (1, Told::Begins(Stage::Text), "\r\x1b[K"),
@@ -259,14 +259,14 @@ const TEXT_SHOWN: &[Line] = &[
     (9_000, Told::Ends, ""),
 ];
 
-// The same where nothing was shown before.
+// The same if nothing was shown before.
 const TEXT_ALONE: &[Line] = &[
     (1, Told::Begins(Stage::Text), ""),
     (9_000, Told::Read(1), ""),
     (9_000, Told::Ends, ""),
 ];
 
-// What is told where the text goes to a file that is named.
+// The reports if the text goes to a file that is named.
 const TEXT_FILED: &[Line] = &[
     (0, Told::ToFile, ""),
     (1, Told::Begins(Stage::Text), "\rwriting\x1b[K"),
@@ -274,7 +274,7 @@ const TEXT_FILED: &[Line] = &[
     (9_000, Told::Ends, "\r\x1b[K"),
 ];
 
-// What is told where standard input is typed. What was shown is taken away first.
+// The reports if standard input is typed. What was shown is cleared first.
 const INPUT_TYPED: &[Line] = &[
     (
         0,
@@ -290,10 +290,10 @@ const INPUT_TYPED: &[Line] = &[
     (202, Told::Ends, ""),
 ];
 
-// What is told where standard input is no terminal.
+// The reports if standard input is no terminal.
 const INPUT_GIVEN: &[Line] = &[(0, Told::Input, ""), (1, Told::Ends, "")];
 
-// Whether standard input is a terminal, and what is told then.
+// Whether standard input is a terminal, and the reports then.
 const TABLES: &[(bool, &[Line])] = &[
     (false, LINES),
     (true, NO_LINES),
@@ -332,7 +332,7 @@ fn assert_taken<H: Abort + AllocGlobal>(
     millis: u64,
     text: &[u8],
 ) -> Result<(), Fail> {
-    let taken = screen.taken(rt)?;
+    let taken = screen.take_bytes(rt)?;
     assert_bytes(rt, millis, &taken, text);
     Ok(())
 }
@@ -352,13 +352,13 @@ fn a_line_is_written_eight_times_a_second(rt: HostRuntime) -> Result<(), Fail> {
     for millis in 1..=3_000 {
         clock.millis.store(millis, Ordering::SeqCst);
         line.after_book(0, 0);
-        let is_written = !screen.taken(&rt)?.is_empty();
+        let is_written = !screen.take_bytes(&rt)?.is_empty();
         assert_same(&rt, millis, &is_written, &(millis % 125 == 0));
     }
     Ok(())
 }
 
-// Asserts that a line with such a clock and screen writes nothing of this.
+// Asserts that a line with this clock and screen writes nothing for these reports.
 fn assert_nothing_shown<H: Abort + AllocGlobal>(
     rt: &H,
     is_broken: bool,
@@ -407,17 +407,17 @@ fn the_tenths_that_passed_are_told(rt: HostRuntime) -> Result<(), Fail> {
     Ok(())
 }
 
-// Keeps what it is told.
+// Keeps the reports.
 #[derive(Drop)]
 pub(crate) struct Heard {
     bytes: AtomicU64,
-    // the most that were told by one call
+    // the greatest number of bytes in one call
     most_bytes: AtomicU64,
     batches: AtomicU64,
     begun: AtomicU64,
     counted: AtomicU64,
     ends: AtomicU64,
-    // how many calls came behind an end
+    // how many calls came after an end
     late: AtomicU64,
     // how many calls of each came
     filed: AtomicU64,
@@ -445,13 +445,13 @@ impl Heard {
         }
     }
 
-    // How many bytes were told, and the most by one call.
+    // How many bytes were reported, and the most in one call.
     pub(crate) fn bytes(&self) -> (u64, u64) {
         let order = Ordering::SeqCst;
         (self.bytes.load(order), self.most_bytes.load(order))
     }
 
-    // How many bytes, batches, batches that were begun and counted, ends, and calls behind an end were told.
+    // How many bytes, batches, batches that were begun and counted, ends, and calls after an end were reported.
     fn numbers(&self) -> [u64; 6] {
         let order = Ordering::SeqCst;
         [
@@ -464,7 +464,7 @@ impl Heard {
         ]
     }
 
-    // How many calls came of each of the fields behind the late ones.
+    // How many calls came of each of the fields after the late ones.
     fn calls(&self) -> [u64; 5] {
         let order = Ordering::SeqCst;
         [
@@ -540,7 +540,7 @@ impl Progress for Heard {
     }
 }
 
-// A writer that keeps whether this was told before each of its writes.
+// A writer that keeps whether this was reported before each of its writes.
 #[derive(Drop)]
 struct Behind<'a> {
     what: &'a AtomicU64,
@@ -560,8 +560,8 @@ impl Write for Behind<'_> {
     }
 }
 
-// A command line, its input, and what it writes to the output and to the errors; how many bytes are told, and how many
-// batches; and how many tables and texts begin.
+// A command line, its input, and what it writes to the output and to the errors; how many bytes are reported, and how
+// many batches; and how many tables and texts begin.
 type Run = (
     &'static str,
     &'static str,
@@ -601,7 +601,7 @@ const RUNS: &[Run] = &[
         ">r\nA@C\n",
         "",
         "kcount: 2: bad base, source 1, line 2\n",
-        // bytes are told with the reads that they say
+        // bytes are reported with the reads that they have
         (0, 0),
         (0, 0),
     ),
@@ -624,7 +624,7 @@ fn writer_behind(alloc: Global, what: &AtomicU64) -> Behind<'_> {
     }
 }
 
-// Asserts what was written and told of a run, which reads its input.
+// Asserts what a run wrote and reported, which reads its input.
 fn assert_heard<H: Abort>(
     rt: &H,
     heard: &Heard,
@@ -642,7 +642,7 @@ fn assert_heard<H: Abort>(
     assert_same(rt, *line, &is_behind, &true);
 }
 
-// Runs the command line, and asserts what it writes and tells.
+// Runs the command line, and asserts what it writes and reports.
 fn assert_run<H: Files + Threads + Wait + Abort + Sync + AllocGlobal>(
     rt: &H,
     example: &Run,
@@ -666,8 +666,8 @@ fn assert_run<H: Files + Threads + Wait + Abort + Sync + AllocGlobal>(
     Ok(())
 }
 
-// The bytes of all sources and each batch are told, then that the text begins, before any of it is written, and then
-// the end, once and before anything goes to the errors.
+// The bytes of all sources and each batch are reported, then that the text begins, before any of it is written, and
+// then the end, once and before anything goes to the errors.
 #[test]
 fn a_count_tells_its_bytes_and_batches(rt: HostRuntime) -> Result<(), AllocError> {
     for run in RUNS {

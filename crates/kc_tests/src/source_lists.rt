@@ -86,14 +86,14 @@ fn columns(k: u32) -> Result<Options, Fail> {
     )
 }
 
-// What a count answered, and what it wrote.
+// What a count returned, and what it wrote.
 #[derive(Drop)]
 pub(crate) struct Counted {
     pub(crate) answer: Result<(), ToolFault>,
     pub(crate) written: Vec<u8>,
 }
 
-// Asserts that a count answered this and wrote this. A failure tells the number of its row, its reads or its room.
+// Asserts that a count returned this and wrote this. A failure shows the number of its row, its reads or its room.
 pub(crate) fn assert_counted<H: Abort>(
     rt: &H,
     number: usize,
@@ -120,7 +120,7 @@ pub(crate) fn sources_of<'a>(
     Ok(sources)
 }
 
-// Puts the bytes of these inputs behind the sources.
+// Appends the bytes of these inputs to the sources.
 pub(crate) fn add_sources<'a>(
     sources: &mut Vec<FromBytes<'a>>,
     inputs: &[&'a str],
@@ -131,7 +131,7 @@ pub(crate) fn add_sources<'a>(
     Ok(())
 }
 
-// Counts the words of these sources, where a list is given those of the list.
+// Counts the words of these sources, if a list is given those of the list.
 pub(crate) fn counted_of<H: Threads + Wait + Sync, Q: Source + Drop, R: Source + Drop>(
     rt: &H,
     alloc: Global,
@@ -191,7 +191,7 @@ fn no_source_gives_no_reads(rt: HostRuntime) -> Result<(), Fail> {
     Ok(())
 }
 
-// Sources, and the fault that is told, with the number of its source.
+// Sources, and the fault that is reported, with the number of its source.
 const FAULTY_SOURCES: &[(&[&str], u64, FastxFault)] = &[
     (&[">a\nAC\n", "ACGT\n", "@\n"], 2, FastxFault::BadStart(1)),
     (&[">a\nA C\n", "ACGT\n", ""], 1, FastxFault::BadBase(2)),
@@ -232,7 +232,7 @@ fn count_slowly<H: Threads + Wait + Sync + AllocGlobal>(
 // The dump of `>r1\nACGTA\n`.
 const DUMP: &[u8] = b"ACG 1\nCGT 1\nGTA 1\n";
 
-// A read that fails is answered as such, and nothing is written; read byte by byte the answer is the same.
+// If a read fails, that is returned, and nothing is written; read byte by byte the result is the same.
 #[test]
 fn slow_and_failing_sources(rt: HostRuntime) -> Result<(), Fail> {
     let failed = Err(fault_of(1, FastxFault::Read));
@@ -245,7 +245,7 @@ fn slow_and_failing_sources(rt: HostRuntime) -> Result<(), Fail> {
     Ok(())
 }
 
-// Asserts what is answered and written where the source fails at its n-th read.
+// Asserts what is returned and written if the source fails at its n-th read.
 fn assert_slow<H: Threads + Wait + Abort + Sync + AllocGlobal>(
     rt: &H,
     n: usize,
@@ -333,18 +333,18 @@ fn dump_of(is_in_columns: bool) -> Dump {
     }
 }
 
-// Bounds of a dump both count; a tab stands in columns alone.
+// The bounds of a dump are inclusive; a tab is only in columns.
 #[test]
 fn bounds_and_tabs(rt: HostRuntime) -> Result<(), Fail> {
     let options = columns(3)?.with_both(true);
     for (row, (is_in_columns, lower, upper, text)) in BOUNDS.iter().enumerate() {
-        let dump = dump_of(*is_in_columns).between(*lower, *upper);
+        let dump = dump_of(*is_in_columns).with_bounds(*lower, *upper);
         assert_dumped(&rt, row, &options.with_dump(dump), text.as_bytes())?;
     }
     assert_dumped(&rt, BOUNDS.len(), &options.with_dump(TABS), b"GTA\t1\n")
 }
 
-// Asserts that the words of ACGTA are written so.
+// Asserts that the words of ACGTA are written like this.
 fn assert_dumped<H: Threads + Wait + Abort + Sync + AllocGlobal>(
     rt: &H,
     row: usize,

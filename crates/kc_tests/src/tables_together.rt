@@ -1,4 +1,4 @@
-//! Tables of reads that are counted apart and put together.
+//! Tables of reads that are counted separately and added.
 use crate::listed_reads::{BOTH, How, PLAIN, count_listed, options_of};
 use crate::source_lists::{Counted, add_sources, counted_of, sources_of};
 use crate::written_bytes::{assert_bytes, assert_same};
@@ -10,7 +10,7 @@ use std::sync::Wait;
 use std::test::Fail;
 use std::thread::Threads;
 
-// The table of some inputs and, behind them, some more.
+// The table of some inputs and, after them, some more.
 fn table_of<'a, H: Threads + Wait + Abort + Sync + AllocGlobal>(
     rt: &H,
     how: How,
@@ -96,7 +96,7 @@ fn the_tables_of_the_parts_are_the_table_of_the_whole(rt: HostRuntime) -> Result
     Ok(())
 }
 
-// Asserts that the tables of some inputs and of some more, put together, are the table of all.
+// Asserts that the sum of the tables of some inputs and of some more is the table of all.
 fn assert_parts<H: Threads + Wait + Abort + Sync + AllocGlobal>(
     rt: &H,
     how: How,
@@ -145,7 +145,7 @@ const UNLIKE: &[How] = &[
     },
 ];
 
-// Asserts that the tables can't be put together in either order, since they do not match.
+// Asserts that the tables can't be added in either order, since they do not match.
 fn assert_unlike<H: Abort + AllocGlobal>(rt: &H, first: &[u8], second: &[u8]) {
     let fault = sum_of(rt.alloc(), first, second).err();
     assert_same(rt, "in order", &fault, &Some(ToolFault::Unlike));
@@ -160,7 +160,7 @@ fn tables_that_were_counted_in_other_ways(rt: HostRuntime) -> Result<(), Fail> {
         let other = table_of(&rt, *how, &[ACGTA], &[])?;
         assert_unlike(&rt, &table, &other);
     }
-    // a list is one, also where it has all words
+    // a list is one, also if it has all words
     let listed = listed_table(&rt)?;
     assert_unlike(&rt, &table, &listed);
     assert_unlike(&rt, &listed, &listed);
@@ -173,10 +173,10 @@ fn listed_table<H: Threads + Wait + Abort + Sync + AllocGlobal>(rt: &H) -> Resul
     Ok(count_listed(rt, ACGTA, &[ACGTA], &options)?.written)
 }
 
-// A table that doesn't tell what it was counted from.
+// A table without an origin.
 const OLDER: &[u8] = b"KCT 1 3 s\nACG 1\nEND 1 1\n";
 
-// The sum of a table with one that doesn't tell what it was counted from doesn't tell it either.
+// The sum of a table with one that has no origin has none either.
 #[test]
 fn a_sum_with_an_older_table(rt: HostRuntime) -> Result<(), Fail> {
     let table = table_of(&rt, PLAIN, &[ACGTA], &[])?;

@@ -1,4 +1,4 @@
-//! The bytes of files and of long inputs, as they are told while a count works, and of lists, which are not.
+//! The bytes of files and of long inputs, as they are reported while a count works, and those of lists, which are not.
 use crate::command_lines::words_of;
 use crate::progress_line::Heard;
 use crate::written_bytes::{assert_bytes, assert_same};
@@ -150,8 +150,8 @@ const LIST: &[u8] = b">w\nCAAA\n";
 // The words in which a count is written.
 const COUNT: &str = "count -m 4 --print dump --column";
 
-// How a count goes on, whether its input is the long text or empty, and what it writes; how many bytes are told, and at
-// the most by one call. The short text has 15 bytes, and the long one 1,200 times 64, of which 65,536 are taken at
+// The options of a count, whether its input is the long text or empty, and what it writes; how many bytes are reported,
+// and the most in one call. The short text has 15 bytes, and the long one 1,200 times 64, of which 65,536 are taken at
 // once.
 type Row = (&'static str, bool, &'static str, u64, u64);
 
@@ -175,7 +175,7 @@ const ROWS: &[Row] = &[
     (" --only long.fa short.fa", true, "", 15, 15),
 ];
 
-// Asserts what a row's count writes and tells.
+// Asserts what the count of a row writes and reports.
 fn assert_row<H: Threads + Wait + Abort + Sync + AllocGlobal>(
     rt: &H,
     row: &Row,
@@ -210,7 +210,7 @@ fn assert_row<H: Threads + Wait + Abort + Sync + AllocGlobal>(
     Ok(())
 }
 
-// Each byte of the sources is told once, as it is taken, and none of the list.
+// Each byte of the sources is reported once, as it is taken, and none of the list.
 #[test]
 fn each_byte_is_told_once(rt: HostRuntime) -> Result<(), Fail> {
     let long = reads_of_64(rt.alloc(), 1_200)?;

@@ -1,4 +1,5 @@
-//! Assertions that tell what they were about, proved once: on bytes that were written, and on values of any type.
+//! Assertions whose failures show what they were about, proved once: on bytes that were written, and on values of any
+//! type.
 use std::fmt::{Debug, Display};
 use std::process::Abort;
 
@@ -12,7 +13,7 @@ pub(crate) fn assert_same<H: Abort, W: Display + Drop, T: PartialEq + Debug>(
     assert_eq!(rt; got, want, "{what}");
 }
 
-// Asserts that bytes are the wanted ones. A failure tells what they were written for.
+// Asserts that bytes are the wanted ones. A failure shows what they were written for.
 pub(crate) fn assert_bytes<H: Abort, W: Display + Drop>(rt: &H, what: W, got: &[u8], want: &[u8]) {
     assert_eq!(rt; got, want, "{what}");
 }

@@ -1,4 +1,4 @@
--- Each atomic step keeps the rule, and what the rule tells at the end.
+-- Each atomic step keeps the rule, and what follows from the rule at the end.
 use Rattle.std.proofs.Common.{◌≡◌, ◌≢◌, ℕ, zero, suc, ◌+◌, ◌%◌, ◌^◌, ◌<◌, ◌≤◌, List, [], ◌∷◌, ◌++◌, length, set, Bool}
 use Rattle.std.proofs.Common.{true, false, cond, eqb, leb, refl, sym, ap, ◌∙◌, subst, ⊎_elim, arith, length-append}
 use Rattle.std.specs.Prelude.{All, sum_by, slice_index}
@@ -73,7 +73,7 @@ AllFit-push limit views w others mine j v at = ⊎_elim
     (λ (new : w ≡ v). subst (Fits limit) new mine)
     (at_snoc views w v j at)
 
--- a view that has drawn nothing fits, where it has weight
+-- a view that has drawn nothing fits, if it has weight
 Fits-fresh : (limit weight : ℕ) → 0 < weight → Fits limit (view_of limit weight [])
 Fits-fresh limit weight heavy = record {
   has_limit = λ _. refl;
@@ -139,7 +139,7 @@ one_past : (limit number : ℕ) → length (numbers_past limit (number ∷ [])) 
 one_past limit number =
     elim (leb limit number) as (λ b. length (cond b (number ∷ []) []) ≤ 1) [ true ↦ omega arith | false ↦ omega arith ]
 
--- one number more is at most one more past the limit
+-- one more number is at most one more past the limit
 few_past-push : (limit : ℕ) (numbers : List ℕ) (number : ℕ) → All (λ n. n < limit) numbers
     → length (numbers_past limit (numbers ++ number ∷ [])) ≤ 1
 few_past-push limit numbers number below =
@@ -228,7 +228,7 @@ drawn_before {limit} {seats} {next} {views} id v whole at =
       length-numbers_below next,
     )
 
--- what a step on cell i leaves, where the cells were `ws` and become n there
+-- what a step on cell i leaves, if the cells were `ws` and become n there
 abbrev StepLeaves : {S : Type 0} → Plan → State S View → ℕ → Me S View → ℕ → ℕ → List ℕ → (ℕ → Me S View → Type 0)
     → Type 0
 StepLeaves {S} plan s id me i n ws then =

@@ -1,4 +1,4 @@
--- Which numbers stand among the numbers below n.
+-- Which numbers are among the numbers below n.
 use Rattle.std.proofs.Common.{ℕ, ◌<◌, List, get_or, eqb}
 use Rattle.std.proofs.Common.{sym, subst, arith, ne_eqb}
 use Rattle.std.specs.List.{IsDistinct, range_with_len}

@@ -78,7 +78,7 @@ module _ {S : Type 0} {table table' : TableId} {me me' : Me S View} {number limi
       let past : me.0.limit ≤ number = omega (arith, steps.limit_is) in
       subst IsDone (sym steps.drawn) (Any-push (λ n. me.0.limit ≤ n) me.0.drawn number past)
 
-  -- a seat is answered no more numbers than there are
+  -- a seat's draws return at most as many numbers as there are
   pub few_answers : number < limit → length (answers_of (seat_of table' me'.0)) ≤ me.0.limit
   few_answers less =
       let same = ap (λ (d : SeatSeen). length d.drawn) steps.drawn in
@@ -140,7 +140,7 @@ limit_reached limit next (x ∷ xs) some same done whole =
     let limit_is = All-head (λ (seat : SeatSeen). seat.limit ≡ limit) x xs same in
     omega arith
 
--- what was answered is what was drawn below the limit
+-- what was returned is what was drawn below the limit
 answers_is : (limit : ℕ) (seats : List SeatSeen) → All (λ (seat : SeatSeen). seat.limit ≡ limit) seats
     → flat_map answers_of seats ≡ filter (λ number. ltb number limit) (all_drawn seats)
 answers_is limit [] same = refl
@@ -175,7 +175,7 @@ below_limit limit (suc more) =
     ∙ append-nil (filter (λ number. ltb number limit) (numbers_below (limit + more)))
     ∙ below_limit limit more
 
--- where all seats are done, the callers were answered each number below the limit, once
+-- if all seats are done, the draws returned each number below the limit, once
 pub all_answers : (limit next : ℕ) (seats : List SeatSeen) → 0 < length seats
     → All (λ (seat : SeatSeen). seat.limit ≡ limit) seats → AreNumbersBelow next (all_drawn seats) → All IsDone seats
     → AreNumbersBelow limit (flat_map answers_of seats)

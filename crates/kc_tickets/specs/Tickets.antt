@@ -1,11 +1,10 @@
--- Numbered tickets as callers see them, and the seats that draw from it. They are this project's
--- own.
+-- Numbered tickets as callers see them, and the seats that draw them. They are this project's own.
 use Rattle.std.specs.Prelude.{◌≡◌, ℕ, ◌≤◌, ◌∷◌, [], ◌++◌, List, Any, filter, nat_lt}
 use Rattle.std.specs.List.{range_with_len}
 use Rattle.std.specs.List.Sorted.{IsPermutation}
 use Rattle.atomic_table.specs.Seated.{TableId}
 
--- Tickets: the table of their cells, the limit below which numbers are answered, and how many seats draw.
+-- Tickets: the table of their cells, the limit below which numbers are returned, and the number of seats.
 pub record TicketsSeen : Type 0 where
   pub table : TableId
   pub limit : ℕ
@@ -25,15 +24,15 @@ IsSeatOf tickets seat = (seat.table ≡ tickets.table) × (seat.limit ≡ ticket
 abbrev pub IsDone : SeatSeen → Type 0
 IsDone seat = Any (λ number. seat.limit ≤ number) seat.drawn
 
--- the numbers that the seat was answered: of those that it drew, the ones below the limit
+-- the numbers that the seat's draws returned: of those that it drew, the ones below the limit
 abbrev pub answers_of : SeatSeen → List ℕ
 answers_of seat = filter (λ number. nat_lt number seat.limit) seat.drawn
 
--- the seat has drawn this number after those that it had, and nothing else of it changed
+-- the seat drew this number after the earlier ones, and nothing else of it changed
 abbrev pub Draws : SeatSeen → SeatSeen → ℕ → Type 0
 Draws old new number = new ≡ record { table = old.table; limit = old.limit; drawn = old.drawn ++ number ∷ [] }
 
--- 0, 1, 2 and so on, n numbers
+-- 0, 1, 2 and so on: n numbers
 unfoldable pub numbers_below : ℕ → List ℕ
 numbers_below n = range_with_len 0 n
 

@@ -1,10 +1,10 @@
 //! Tickets: numbers that threads draw, each once and without a lock.
 //!
-//! `Tickets::new` makes tickets with a limit, and with them all the `Seat`s that ever draw from them. Threads share
-//! the tickets by reference, and each has a seat of its own. `Tickets::draw` answers the next number below the limit,
-//! by two atomic steps and no lock, and `None` once there is none left; the seat is done then. `Tickets::close` takes
-//! all seats back and says what was drawn: each number below the limit was answered once. `ticket_laws` has what
-//! callers conclude from that.
+//! `Tickets::new` makes tickets with a limit, and with them all the `Seat`s that ever draw from them. Threads share the
+//! tickets by reference, and each has a seat of its own. `Tickets::draw` returns the next number below the limit, with
+//! two atomic steps and no lock, and `None` once there is none left; then the seat is done. `Tickets::close` takes all
+//! seats back, and its contract states what was drawn: each number below the limit was returned once. `ticket_laws` has
+//! what callers conclude from that.
 //!
 //! ```ignore
 //! let (tickets, mut seats) = Tickets::new(alloc, 2, 1)?;    // two numbers, and a seat for one thread

@@ -3,13 +3,13 @@ ghost use Rattle.std.specs.Prelude.{◌≡◌, [], ◌∷◌};
 ghost use Rattle.kc_tickets.specs.Tickets.{numbers_below};
 ghost use Rattle.kc_tickets.specs.Laws.{EachStandsOnce, NoneIsLeftOut, TwoKeepRule, seat_view};
 
-/// Shows that among the numbers below `n`, in whatever order, each stands once and no other number stands: what
-/// `Tickets::close` says of all that was drawn or answered. It does nothing when it runs.
+/// Shows that the numbers below `n`, in whatever order, contain each of them once and no other number: what the
+/// contract of `Tickets::close` states of all that was drawn or returned. It does nothing when it runs.
 pub fn each_stands_once()
     ensures { EachStandsOnce }
 {}
 
-/// Shows that `n` distinct numbers below `n` leave none out: whoever knows that every number drawn was worked off, and
+/// Shows that `n` distinct numbers below `n` are all of them: whoever knows that every number drawn was processed, and
 /// counted as many as there are, knows that none is missing. It does nothing when it runs.
 pub fn none_is_left_out()
     ensures { NoneIsLeftOut }
@@ -22,7 +22,7 @@ pub fn worked_rows()
     ensures start { TwoKeepRule 0 (seat_view 2 [] ∷ []) }
     // the seats drew in turn: 0 and 2, 1 and 3
     ensures in_turn { TwoKeepRule 4 (seat_view 1 (0 ∷ 2 ∷ []) ∷ seat_view 1 (1 ∷ 3 ∷ []) ∷ []) }
-    // the second one came back
+    // the second one was joined to the first
     ensures back { TwoKeepRule 4 (seat_view 2 (0 ∷ 2 ∷ 1 ∷ 3 ∷ []) ∷ seat_view 0 [] ∷ []) }
     // no number is drawn twice, none is left out, and no seat draws on after a number at or past the limit
     ensures twice { ¬ TwoKeepRule 2 (seat_view 1 (0 ∷ []) ∷ seat_view 1 (0 ∷ []) ∷ []) }

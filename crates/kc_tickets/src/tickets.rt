@@ -18,17 +18,17 @@ const NEXT: usize = 0;
 // The cell of the limit.
 const LIMIT: usize = 1;
 
-// What the tickets are told once, when they are made.
+// What the tickets get when they are made.
 #[derive(Clone, Copy)]
 struct Plan {
     limit: u64,
     seats: u64,
 }
 
-// What a seat knows. No value of it is made.
+// What a seat knows. It has no values at run time.
 struct View {
     limit: u64,
-    // How many seats are in it.
+    // How many seats it counts for.
     weight: u64,
     drawn: LinkedList<u64>,
 }
@@ -73,7 +73,7 @@ impl Split<View> for OneSeat {
     ghost right = { new_view };
 }
 
-// A seat comes back into another.
+// A seat is joined to another.
 struct Return;
 
 impl Join<View> for Return {
@@ -87,8 +87,8 @@ impl Join<View> for Return {
 type Token = atomic_table::Seat<(), View>;
 
 /// The tickets of a run: the numbers from 0 on, which the seats that were made with them draw, each number once. A draw
-/// is answered its number where that is below the limit, and else `None`. Threads share it by reference. What a
-/// contract sees of it is a `TicketsSeen`.
+/// returns its number if that is below the limit, otherwise `None`. Threads share it by reference. Its view is a
+/// `TicketsSeen`.
 #[derive(Drop)]
 pub struct Tickets {
     table: Table<(), View, Plan, WholeDraws, Global>,
@@ -109,8 +109,8 @@ impl Model for Tickets {
         (shared.table_id.words ≡ 3) × (shared.table_id.slots ≡ 0) × (1 ≤ shared.key.seats) };
 }
 
-/// A seat: the right to draw from these tickets. One thread has it at a time, and it may go to another. What a contract
-/// sees of it is a `SeatSeen`: its tickets, and all the numbers that it drew.
+/// A seat: the right to draw from these tickets. One thread has it at a time, and it may go to another. Its view is a
+/// `SeatSeen`: its tickets, and all the numbers that it drew.
 #[derive(Drop)]
 pub struct Seat {
     token: Token,
@@ -133,10 +133,10 @@ impl Model for Seat {
 }
 
 impl Tickets {
-    /// Makes the tickets below `limit`, and with them all the seats that ever draw from them, `seats` many. They have
-    /// drawn nothing yet.
+    /// Makes the tickets below `limit`, and with them all the `seats` seats that ever draw from them. They have drawn
+    /// nothing yet.
     ///
-    /// The limit is at most 2^40, and there are 1 to 64 seats. Fails only where there is no memory.
+    /// Conditions: the limit is at most 2^40, and there are 1 to 64 seats. Fails only if there is no memory.
     pub fn new(alloc: Global, limit: u64, seats: u32) -> Result<(Tickets, Vec<Seat>), AllocError>
         requires limit { limit ≤ 2 ^ 40 }
         requires seats { (1 ≤ seats) × (seats ≤ 64) }
@@ -150,7 +150,7 @@ impl Tickets {
             limit,
             seats: u64::from(seats),
         };
-        // The first seat stands for all that are not made yet.
+        // The first seat counts for all that are not made yet.
         let (table, mut first) = Table::of_words(alloc, &[0, plan.limit, plan.seats], &plan)?;
         let mut row = Vec::with_capacity(alloc, seats as usize)?;
         for _ in 1..seats {
@@ -164,11 +164,11 @@ impl Tickets {
         Ok((Tickets { table }, row))
     }
 
-    /// Draws the next number, with no lock and no memory, and waits for nobody. The answer is `None` where the number
-    /// is not below the limit. The seat is done then, and draws no more.
+    /// Draws the next number, with no lock and no memory, and waits for nobody. Returns `None` if the number is not
+    /// below the limit. Then the seat is done, and draws no more.
     ///
-    /// The seat is of these tickets and not done. A seat is answered at most as many numbers as lie below the limit,
-    /// so that a loop of draws ends.
+    /// Conditions: the seat belongs to these tickets and is not done. A seat's draws return at most as many numbers as
+    /// there are below the limit, so a loop of draws ends.
     pub fn draw(&self, seat: &mut Seat) -> Option<u64>
         requires own { IsSeatOf self.now seat.old }
         requires more { ¬ IsDone seat.old }
@@ -194,9 +194,8 @@ impl Tickets {
 
     /// Ends the draws, with all the seats that `new` gave, and takes no memory.
     ///
-    /// What the seats drew, taken together, are the numbers below some number, each once. Where every seat is done,
-    /// what the draws were answered are the numbers below the limit, each once, so there were as many answers as the
-    /// limit.
+    /// What the seats drew, taken together, are the numbers below some number, each once. If every seat is done, the
+    /// draws returned the numbers below the limit, each once, so there were as many as the limit.
     pub fn close(self, mut seats: Vec<Seat>)
         requires own { All (IsSeatOf self) seats.items }
         requires all { vec_len seats ≡ self.seats }
@@ -217,7 +216,7 @@ impl Tickets {
 }
 
 impl Seat {
-    /// Whether a draw was answered `None`. Then the seat draws no more.
+    /// Whether a draw returned `None`. Then the seat draws no more.
     pub fn is_done(&self) -> bool
         ensures { IsTrue result ↔ IsDone self.now }
     {

@@ -124,7 +124,7 @@ refused_cleaning d later (BrokenTable place) r within h settings = absurd h
 refused_cleaning d later (ShortTable place) r within h settings = absurd h
 refused_cleaning d later (Unpaired number) r within h settings = absurd h
 
--- The same, where it is read at its index.
+-- The same, if it is read at its index.
 module _ {old now : List Seen} {rule : CountingRule} {batch i : ℕ} {cut : ReadsInCutting} (counted : cut.sources ≡ i)
     (within : i < length now) (r : CutSoFar old now rule batch cut) where
   below : cut.sources < length now
@@ -163,13 +163,13 @@ all_cut {old} {new} {rule = rule} {cut = cut} r all = record {
   few = omega (arith, r.few);
 }
 
--- A cutting took one piece more.
+-- A cutting took one more piece.
 pub record TakesPiece (old new : OpenCutting) (piece : List ℕ) : Type 0 where
   pub length_of_words : new.k ≡ old.k
   pub size : new.size ≡ old.size
   pub more : (pieces : List (List ℕ)) → HasTaken old pieces → HasTaken new (pieces ++ piece ∷ [])
 
--- A source was read so far: the pieces of its reads were cut behind those that were cut before.
+-- A source was read so far: the pieces of its reads were cut after those that were cut before.
 pub record PiecesSoFar (start now : Seen) (limit : ℕ) (rule : CountingRule) (before cutting : OpenCutting)
     (stand : Stand) (count : ℕ) : Type 0 where
   pub reads : List Read

@@ -13,7 +13,7 @@ use Rattle.clap.specs.declared.error.kind.ErrorKind.{ErrorKind}
 use Rattle.clap.specs.declared.error.kind.ErrorKind.TheVariants.{DisplayHelp, DisplayVersion, OutOfMemory}
 use Rattle.kc_io.specs.Sources.{Seen}
 use Rattle.kc_command.specs.Command.{IsCommand, kcount_app}
-use Rattle.kc_command.specs.declared.pair_options.PairsRefusal.{PairsRefusal}
+use Rattle.kc_tool.specs.declared.option_tips.Conflict.{Conflict}
 use Rattle.kc_tool.specs.CommandLine.{AreApart, AreTaken, AskFor, AskForHelp, CarriesOut, DoesCommand, EndsWell, FailsSo}
 use Rattle.kc_tool.specs.CommandLine.{IsHelp, RefusesSo, IsTold, MayExplain, SaysText, ShowsSo, WantsMore, status_of}
 use Rattle.kc_tool.specs.FaultLines.{fault_line}
@@ -67,10 +67,13 @@ has_verb name (inr (inr (inl is))) = (verb.Histo, is)
 has_verb name (inr (inr (inr (inl is)))) = (verb.Stats, is)
 has_verb name (inr (inr (inr (inr (inl is))))) = (verb.Query, is)
 has_verb name (inr (inr (inr (inr (inr (inl is)))))) = (verb.Merge, is)
-has_verb name (inr (inr (inr (inr (inr (inr (inl is))))))) = (verb.Select, is)
-has_verb name (inr (inr (inr (inr (inr (inr (inr is))))))) = (verb.Profile, is)
+has_verb name (inr (inr (inr (inr (inr (inr (inl is))))))) = (verb.Intersect, is)
+has_verb name (inr (inr (inr (inr (inr (inr (inr (inl is)))))))) = (verb.Subtract, is)
+has_verb name (inr (inr (inr (inr (inr (inr (inr (inr (inl is))))))))) = (verb.Filter, is)
+has_verb name (inr (inr (inr (inr (inr (inr (inr (inr (inr (inl is)))))))))) = (verb.Select, is)
+has_verb name (inr (inr (inr (inr (inr (inr (inr (inr (inr (inr is)))))))))) = (verb.Profile, is)
 
--- `clap` takes the arguments where nothing fails
+-- `clap` takes the arguments if nothing fails
 taken : (arguments : List Text) (matches : ArgMatches) → fault_of kcount_app arguments ≡ [] → subcommand_rows_of matches ≡ subcommand_of kcount_app arguments
     → AreTaken arguments matches
 taken arguments matches none is =
@@ -100,6 +103,9 @@ verb_found verb.Histo = refl
 verb_found verb.Stats = refl
 verb_found verb.Query = refl
 verb_found verb.Merge = refl
+verb_found verb.Intersect = refl
+verb_found verb.Subtract = refl
+verb_found verb.Filter = refl
 verb_found verb.Select = refl
 verb_found verb.Profile = refl
 
@@ -132,17 +138,11 @@ pub command_done : {arguments : List Text} {old new : Surroundings} {outcome : R
     → AskFor arguments command rows → GoTogether command rows → EndsSo command rows old new outcome → DoesCommand arguments old new outcome
 command_done {rows = rows} {command} asked together ends = (command, rows, asked, together, ends)
 
--- options that don't go together are those of a selection
-pub are_apart : {arguments : List Text} {rows : List Row} (why : PairsRefusal) (command : Verb) → AskFor arguments command rows → AreNotTogether command rows why
-    → AreApart arguments
-are_apart {rows = rows} why verb.Select asked apart = record { options = rows; asked = asked; reason = why; is = apart }
-are_apart why verb.Count asked apart = absurd apart
-are_apart why verb.Dump asked apart = absurd apart
-are_apart why verb.Histo asked apart = absurd apart
-are_apart why verb.Stats asked apart = absurd apart
-are_apart why verb.Query asked apart = absurd apart
-are_apart why verb.Merge asked apart = absurd apart
-are_apart why verb.Profile asked apart = absurd apart
+-- arguments that conflict
+pub are_apart : {arguments : List Text} {rows : List Row} (why : Conflict) (command : Verb) → AskFor arguments command rows
+    → AreNotTogether command rows why → AreApart arguments
+are_apart {rows = rows} why command asked apart =
+    record { command = command; options = rows; asked = asked; reason = why; is = apart }
 
 -- they refuse the arguments
 pub refused_apart : {arguments : List Text} (old : Surroundings) (ending : Ending) → AreApart arguments → RefusesSo ending → CarriesOut arguments old old (Err ending)
@@ -157,7 +157,7 @@ verb_known {matches = matches} {name} taken named none =
     let found : verb_named name ≡ Some taken.command = ap verb_named name_is ∙ verb_found taken.command in
     cc
 
--- what a command answers, its fault as the end of a command line
+-- what a command returns, its fault as the end of a command line
 pub command_ended : {arguments : List Text} {old new : Surroundings} (outcome : Result Told ToolFault) (r : Result Told Ending)
     → MatchResult outcome (λ told. r ≡ Ok told) (λ fault. IsErrAnd r (λ ending. ending ≡ Fault fault)) → DoesCommand arguments old new outcome
     → CarriesOut arguments old new r
@@ -169,7 +169,7 @@ command_ended {arguments} {old} {new} (Err fault) (Err ending) is done = subst (
 abbrev with_output : Seen → List FileEvent → Written → Surroundings
 with_output input asked output = record { input = input; output = output; asked = asked }
 
--- an answer of `clap` was shown
+-- a result of `clap` was shown
 pub shown : (input : Seen) (asked : List FileEvent) (arguments : List Text) (error : Error) (old new : Written) (r : Result Told Ending)
     → HasKind (fault_of kcount_app arguments) error → ShowsSo error old new r
     → CarriesOut arguments (record { input = input; output = old; asked = asked }) (record { input = input; output = new; asked = asked }) r
@@ -263,7 +263,7 @@ module _ (watched : Bool) {arguments : List Text} {old new : Surroundings} {erro
     within = rw exit (small_status fault);
   }
 
--- What a fault may be explained by, where the command and its options are those that were asked for.
+-- What a fault may be explained by, if the command and its options are those that were asked for.
 pub may_explain : {watched : Bool} {arguments : List Text} (matches : ArgMatches) (options : List Row) (text : Text) → AreTaken arguments matches
     → Some options ≡ option_map (λ p. p.1) (subcommand_rows_of matches)
     → (text ≡ []) ⊎ (watched ≡ true) ⊎ IsFlag options (codes "explain") true → MayExplain watched arguments text
@@ -295,13 +295,13 @@ pub says : (text : List ℕ) {old new : Written} → (text ≡ [] → ⊥) → I
 says [] some told = absurd (some refl)
 says (byte ∷ text) some told = told
 
--- Of help and the version nothing is said, and a fault needs no closing line.
+-- Nothing is printed of help and the version, and a fault needs no closing line.
 pub unsaid : (error : Error) (old new : Written) (watched : Bool) (arguments : List Text) (r : Result Told Ending)
     → ShowsSo error old new r → IfOk r (λ told. WantsMore watched arguments → IsClosing told [])
 unsaid error old new watched arguments (Ok told) shows = λ wants. (None, sym (ap (λ v. closing_line v None) shows.0))
 unsaid error old new watched arguments (Err ending) shows = tt
 
--- Where more is wanted, the errors are read by a person, or the options that were taken ask for it.
+-- If more is wanted, the errors are read by a person, or the options that were taken ask for it.
 wants : {watched : Bool} {arguments : List Text} (matches : ArgMatches) (options : List Row) → AreTaken arguments matches
     → Some options ≡ option_map (λ p. p.1) (subcommand_rows_of matches) → WantsMore watched arguments
     → (watched ≡ true) ⊎ (one_of (codes "explain") options ≡ Some (codes "true"))

@@ -30,7 +30,7 @@ use Rattle.kc_tool.specs.declared.named_sources.NamedSource.{NamedSource}
 use Rattle.kc_tool.specs.declared.tool_faults.ToolFault.{ToolFault}
 use Rattle.kc_tool.specs.declared.tool_faults.ToolFault.TheVariants.{Fastx, BadHeader, BadRow, BadEnd, TableTooLong, TableRead, Memory, BadOption, BadWord, Write, Run, OpenFailed, Unlike, TooLarge, BrokenTable, ShortTable, Unpaired}
 use Rattle.kc_tool.specs.declared.commands.Task.{Task}
-use Rattle.kc_tool.specs.declared.commands.Task.TheVariants.{Count, CountListed, Report, Query, Merge, Select, SelectPairs}
+use Rattle.kc_tool.specs.declared.commands.Task.TheVariants.{Count, CountListed, Report, Query, Combine, Select, SelectPairs}
 use Rattle.kc_tool.specs.declared.commands.Verb.{Verb}
 use Rattle.kc_tool.specs.declared.commands.Verb.TheVariants as verb
 use Rattle.kc_tool.specs.Reports.{ReportsOn, report_of, report_text}
@@ -48,8 +48,8 @@ pub record DoesTask (sources : List (NamedSource Seen)) (task : Task) (old new :
   pub log : new.asked ≡ old.asked ++ returned files
   pub done : Does task (stage_before task old.input files old.output) (stage_after task new.input files new.output) outcome
 
--- a task is done with sources that were opened, and writes to the given output; or, where a file is named for the
--- output, or two are, to these, if they can be created, and the given output is as it was
+-- a task is done with sources that were opened, and writes to the given output; or, if a file is named for the output,
+-- or two are, to these, if they can be created, and the given output is unchanged
 abbrev pub DoesTaskTo : Option Text → Option Text → List (NamedSource Seen) → Task → Surroundings → Surroundings
     → Result Told ToolFault → Type 0
 DoesTaskTo None second sources task old new outcome = DoesTask sources task old new outcome
@@ -60,7 +60,7 @@ DoesTaskTo (Some name) (Some other) sources task old new outcome = (new.output �
     × (DoesTaskApart name other sources task old.input new.input old.asked new.asked outcome
     ⊎ LacksOutput (λ tried fault. HasNotBoth name other tried fault) sources old.input new.input old.asked new.asked outcome)
 
--- files of these names are opened, and a task is done with them and the outputs of these names, where they are given; or
+-- files of these names are opened, and a task is done with them and the outputs of these names, if they are given; or
 -- not all could be opened, and nothing was read or written
 abbrev pub OpensAndDoes : List Text → Option Text → Option Text → Task → Surroundings → Surroundings
     → Result Told ToolFault → Type 0
@@ -84,11 +84,11 @@ module _ (rows : List Row) where
   one_of names [] are = omega (arith, ap length are)
   one_of names (name ∷ all) are = omega (arith, ap length are)
 
-  -- A list is read where one is named.
+  -- A list is read if one is named.
   has_list : (name : Text) (files names : List Text) → names ≡ name ∷ files → 1 ≤ length names
   has_list name files names are = omega (arith, ap length are)
 
-  -- A table and two files are read where pairs are asked for.
+  -- A table and two files are read if pairs are asked for.
   two_files : (names : List Text) → has_pairs rows ≡ true → pairs_refusal rows ≡ None → names ≡ behind_table rows → length names ≡ 3
   two_files names paired together are = pick (has_two_files rows) refl (ap (λ b. if b then refusal_of_pairs rows else refusal_of_reads rows) (sym paired) ∙ together) where
     pick : (two : Bool) → has_two_files rows ≡ two
@@ -107,60 +107,81 @@ module _ (rows : List Row) where
       has_list asks.1.0 (files_named rows) names (are ∙ ap (λ only. behind_list only (files_named rows)) asks.1.1)
   has_files verb.Count (Report report) names together asks are = absurd asks
   has_files verb.Count (Query words) names together asks are = absurd asks
-  has_files verb.Count Merge names together asks are = absurd asks
+  has_files verb.Count (Combine combining) names together asks are = absurd asks
   has_files verb.Count (Select rule tells) names together asks are = absurd asks
   has_files verb.Count (SelectPairs pairing) names together asks are = absurd asks
   has_files verb.Dump (Count settings) names together asks are = absurd asks
   has_files verb.Dump (CountListed settings) names together asks are = absurd asks
   has_files verb.Dump (Report report) names together asks are = one_of names (files_named rows) are
   has_files verb.Dump (Query words) names together asks are = absurd asks
-  has_files verb.Dump Merge names together asks are = absurd asks
+  has_files verb.Dump (Combine combining) names together asks are = absurd asks
   has_files verb.Dump (Select rule tells) names together asks are = absurd asks
   has_files verb.Dump (SelectPairs pairing) names together asks are = absurd asks
   has_files verb.Histo (Count settings) names together asks are = absurd asks
   has_files verb.Histo (CountListed settings) names together asks are = absurd asks
   has_files verb.Histo (Report report) names together asks are = one_of names (files_named rows) are
   has_files verb.Histo (Query words) names together asks are = absurd asks
-  has_files verb.Histo Merge names together asks are = absurd asks
+  has_files verb.Histo (Combine combining) names together asks are = absurd asks
   has_files verb.Histo (Select rule tells) names together asks are = absurd asks
   has_files verb.Histo (SelectPairs pairing) names together asks are = absurd asks
   has_files verb.Stats (Count settings) names together asks are = absurd asks
   has_files verb.Stats (CountListed settings) names together asks are = absurd asks
   has_files verb.Stats (Report report) names together asks are = one_of names (files_named rows) are
   has_files verb.Stats (Query words) names together asks are = absurd asks
-  has_files verb.Stats Merge names together asks are = absurd asks
+  has_files verb.Stats (Combine combining) names together asks are = absurd asks
   has_files verb.Stats (Select rule tells) names together asks are = absurd asks
   has_files verb.Stats (SelectPairs pairing) names together asks are = absurd asks
   has_files verb.Query (Count settings) names together asks are = absurd asks
   has_files verb.Query (CountListed settings) names together asks are = absurd asks
   has_files verb.Query (Report report) names together asks are = absurd asks
   has_files verb.Query (Query words) names together asks are = one_of names (files_named rows) are
-  has_files verb.Query Merge names together asks are = absurd asks
+  has_files verb.Query (Combine combining) names together asks are = absurd asks
   has_files verb.Query (Select rule tells) names together asks are = absurd asks
   has_files verb.Query (SelectPairs pairing) names together asks are = absurd asks
   has_files verb.Merge (Count settings) names together asks are = absurd asks
   has_files verb.Merge (CountListed settings) names together asks are = absurd asks
   has_files verb.Merge (Report report) names together asks are = absurd asks
   has_files verb.Merge (Query words) names together asks are = absurd asks
-  has_files verb.Merge Merge names together asks are = ap length are
+  has_files verb.Merge (Combine combining) names together asks are = tt
   has_files verb.Merge (Select rule tells) names together asks are = absurd asks
   has_files verb.Merge (SelectPairs pairing) names together asks are = absurd asks
+  has_files verb.Intersect (Count settings) names together asks are = absurd asks
+  has_files verb.Intersect (CountListed settings) names together asks are = absurd asks
+  has_files verb.Intersect (Report report) names together asks are = absurd asks
+  has_files verb.Intersect (Query words) names together asks are = absurd asks
+  has_files verb.Intersect (Combine combining) names together asks are = tt
+  has_files verb.Intersect (Select rule tells) names together asks are = absurd asks
+  has_files verb.Intersect (SelectPairs pairing) names together asks are = absurd asks
+  has_files verb.Subtract (Count settings) names together asks are = absurd asks
+  has_files verb.Subtract (CountListed settings) names together asks are = absurd asks
+  has_files verb.Subtract (Report report) names together asks are = absurd asks
+  has_files verb.Subtract (Query words) names together asks are = absurd asks
+  has_files verb.Subtract (Combine combining) names together asks are = tt
+  has_files verb.Subtract (Select rule tells) names together asks are = absurd asks
+  has_files verb.Subtract (SelectPairs pairing) names together asks are = absurd asks
+  has_files verb.Filter (Count settings) names together asks are = absurd asks
+  has_files verb.Filter (CountListed settings) names together asks are = absurd asks
+  has_files verb.Filter (Report report) names together asks are = absurd asks
+  has_files verb.Filter (Query words) names together asks are = absurd asks
+  has_files verb.Filter (Combine combining) names together asks are = tt
+  has_files verb.Filter (Select rule tells) names together asks are = absurd asks
+  has_files verb.Filter (SelectPairs pairing) names together asks are = absurd asks
   has_files verb.Select (Count settings) names together asks are = absurd asks
   has_files verb.Select (CountListed settings) names together asks are = absurd asks
   has_files verb.Select (Report report) names together asks are = absurd asks
   has_files verb.Select (Query words) names together asks are = absurd asks
-  has_files verb.Select Merge names together asks are = absurd asks
+  has_files verb.Select (Combine combining) names together asks are = absurd asks
   has_files verb.Select (Select rule tells) names together asks are = has_list _ (files_named rows) names are
   has_files verb.Select (SelectPairs pairing) names together asks are = two_files names asks.2.0 together are
   has_files verb.Profile (Count settings) names together asks are = absurd asks
   has_files verb.Profile (CountListed settings) names together asks are = absurd asks
   has_files verb.Profile (Report report) names together asks are = absurd asks
   has_files verb.Profile (Query words) names together asks are = absurd asks
-  has_files verb.Profile Merge names together asks are = absurd asks
+  has_files verb.Profile (Combine combining) names together asks are = absurd asks
   has_files verb.Profile (Select rule tells) names together asks are = has_list _ (files_named rows) names are
   has_files verb.Profile (SelectPairs pairing) names together asks are = absurd asks
 
--- Where a second output is named, pairs are asked for.
+-- If a second output is named, pairs are asked for.
 no_reads : (rows : List Row) (other : Text) → has_pairs rows ≡ false → output2_of rows ≡ Some other → pairs_refusal rows ≡ None → ⊥
 no_reads rows other unpaired named together = pick (is_given (codes "keep") rows) (sym (ap (λ b. if b then refusal_of_pairs rows else refusal_of_reads rows) unpaired) ∙ together) where
   second : is_given (codes "output2") rows ≡ true
@@ -181,12 +202,15 @@ writes_two rows verb.Histo task other together asks named = let none : ⊥ = cc 
 writes_two rows verb.Stats task other together asks named = let none : ⊥ = cc in absurd none
 writes_two rows verb.Query task other together asks named = let none : ⊥ = cc in absurd none
 writes_two rows verb.Merge task other together asks named = let none : ⊥ = cc in absurd none
+writes_two rows verb.Intersect task other together asks named = let none : ⊥ = cc in absurd none
+writes_two rows verb.Subtract task other together asks named = let none : ⊥ = cc in absurd none
+writes_two rows verb.Filter task other together asks named = let none : ⊥ = cc in absurd none
 writes_two rows verb.Profile task other together asks named = let none : ⊥ = cc in absurd none
 writes_two rows verb.Select (Count settings) other together asks named = absurd asks
 writes_two rows verb.Select (CountListed settings) other together asks named = absurd asks
 writes_two rows verb.Select (Report report) other together asks named = absurd asks
 writes_two rows verb.Select (Query words) other together asks named = absurd asks
-writes_two rows verb.Select Merge other together asks named = absurd asks
+writes_two rows verb.Select (Combine combining) other together asks named = absurd asks
 writes_two rows verb.Select (Select rule tells) other together asks named = absurd (no_reads rows other asks.2 named together)
 writes_two rows verb.Select (SelectPairs pairing) other together asks named = tt
 
@@ -197,7 +221,7 @@ as_many (Count settings) files others same h = tt
 as_many (CountListed settings) files others same h = rw same at h
 as_many (Report report) files others same h = rw same at h
 as_many (Query words) files others same h = rw same at h
-as_many Merge files others same h = rw same at h
+as_many (Combine combining) files others same h = tt
 as_many (Select rule tells) files others same h = rw same at h
 as_many (SelectPairs pairing) files others same h = rw same at h
 
@@ -241,7 +265,7 @@ module _ (task : Task) (old new : Stage) where
   undone (ShortTable place) other same why = (same, why)
   undone (Unpaired number) other same why = (same, why)
 
-  -- The answer about the tally was written, or a beginning of it, or nothing.
+  -- The text for the tally was written, or a beginning of it, or nothing.
   pub answered : (table : TableSeen) (outcome : Result Told ToolFault) → IsTallyFor old.given new.given task table
       → Answers task table old.output new.output outcome → DoesByTally task old new outcome
   answered table (Ok told) is h = (h.0, (table, is, h.1, h.3), h.2)
@@ -381,7 +405,7 @@ module _ (command : Verb) (rows : List Row) where
         subst (λ fault. IsRefused command rows (tried_alone (files_of command rows) tried) fault) (sym lacks.0)
         (inr (inr (inr (inr (other, second, (name, named, (tried, (file, path, opening, none, closing, opens, lacks.1, gives, all), refl)))))))
 
-  -- A file that is to be read can't be opened.
+  -- A file can't be opened for reading.
   pub file_left : {old : Surroundings} {log : List FileEvent} {outcome : Result Told ToolFault} (fault : ToolFault) → outcome ≡ Err fault
       → first_refused command rows ≡ None → FailsToOpen (files_of command rows) old.asked log fault
       → EndsSo command rows old (record { input = old.input; output = old.output; asked = log }) outcome
@@ -417,7 +441,7 @@ module _ (command : Verb) (rows : List Row) where
 
   module _ (task : Task) {sources : List (NamedSource Seen)} {outcome : Result Told ToolFault} (asks : AsksForTask command rows task)
       {old : Surroundings} {mid : List FileEvent} (opens : OpensAll (files_of command rows) old.asked mid sources) where
-    -- The output has the answer.
+    -- The output has the text.
     pub to_output : {new : Surroundings} → output_of rows ≡ None → DoesTask sources task (record { input = old.input; output = old.output; asked = mid }) new outcome
         → EndsSo command rows old new outcome
     to_output {new} named does = inl (record {
@@ -510,7 +534,7 @@ module _ (command : Verb) (rows : List Row) where
     apart_ends named second lawful (inl does) = to_files named second does
     apart_ends named second lawful (inr lacks) = output_left (λ tried fault why. not_both tried fault named second lawful why) lacks
 
-    -- The output, or the files that are named for it, have the answer.
+    -- The output, or the files that are named for it, have the text.
     done_to : {new : Surroundings} (output second : Option Text) → output_of rows ≡ output → second_of command rows ≡ second → first_refused command rows ≡ None
         → DoesTaskTo output second sources task (record { input = old.input; output = old.output; asked = mid }) new outcome
         → EndsSo command rows old new outcome

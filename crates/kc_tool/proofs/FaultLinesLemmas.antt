@@ -1,4 +1,4 @@
--- A line in which a text of any length stands.
+-- A line with a text of any length in it.
 use Rattle.std.proofs.Common.{◌≡◌, List, [], ◌∷◌, ◌++◌, ℕ, refl, sym, ◌∙◌, ap, subst, append_assoc, append-nil, codes, Result, Ok, Err, OnErr}
 use Rattle.kc_tool.specs.FaultLines.{fault_front, fault_line, fault_name}
 use Rattle.kc_tool.specs.declared.tool_faults.ToolFault.{ToolFault}
@@ -23,7 +23,7 @@ failed_second {a} {b} {c} {block} {text} first begun =
     let pending : Pending a b (block ++ text) text = took_front a a b (block ++ text) block text (begin a (block ++ text)) first in
     began_front a b c (block ++ text) text [] (subst (λ v. Pending a b (block ++ text) v) (sym (append-nil text)) pending) begun
 
--- What is left of a block was written, with more behind it, in either outcome.
+-- What is left of a block was written, with more after it, in either outcome.
 pub rest_written : {A E : Type 0} {a b : Written} (c : Written) {block left : List ℕ} (more : List ℕ) (r : Result A E) → Drains a b block left → Writes b c r (left ++ more)
     → Writes a c r (block ++ more)
 rest_written {A} {E} {a} {b} c {block} {left} more r drains writes =
@@ -42,7 +42,7 @@ pub second_handed : {A E : Type 0} {a b : Written} (c : Written) {block : List �
 second_handed c text (Ok done) first over = tt
 second_handed c text (Err fault) first over = failed_second first over
 
--- A block that was filled step by step, with a text and the end of the line behind it, is the line.
+-- A block that was filled step by step, with a text and the end of the line after it, is the line.
 pub line_is : (fault : ToolFault) {empty begun block text : List ℕ} → empty ≡ [] → begun ≡ empty ++ codes "kcount: " → block ≡ begun ++ fault_front fault
     → text ≡ fault_name fault → (block ++ text) ++ 10 ∷ [] ≡ fault_line fault
 line_is fault {empty} {begun} {block} {text} none first second name =

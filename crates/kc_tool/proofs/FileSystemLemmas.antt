@@ -12,7 +12,7 @@ use Rattle.kc_tool.specs.Outputs.{ClosesOutput, LacksRoomForOutput, MakesNoneBes
 use Rattle.kc_tool.specs.declared.files.NotMade.TheVariants as why
 use Rattle.kc_tool.specs.declared.tool_faults.ToolFault.{ToolFault}
 
--- the file of a path has these bytes, that of a name those, and all others are as they were
+-- the file of a path has these bytes, that of a name those, and all others are unchanged
 record Has (path name : Text) (here there : Option (List ℕ)) (old new : Disk) : Type 0 where
   file : new path ≡ here
   other : new name ≡ there
@@ -109,7 +109,7 @@ module _ (leads : Text → Text) where
   none_nothing path {none} old new (inr all) f = taken_nothing path most_tries old new (subst (λ v. Follows leads v old new) all f)
 
   module _ {path name : Text} (apart : path ≢ name) where
-    -- The file of a text was opened: FILE is as it was, and the new file is empty.
+    -- The file of a text was opened: FILE is unchanged, and the new file is empty.
     opens_beside : {file : Text} {opening : List FileEvent} {old new : Disk} → leads file ≡ path → OpensOutput file name (Some path) opening
         → Follows leads opening old new → Has path name (kept_bytes old path) (Some []) old new
     opens_beside {file} {opening} {old} {new} leads_to opened f =
@@ -184,7 +184,7 @@ puts_in_place leads old new file path task input input_after files asked outcome
     let after = closes_beside leads apart writes.file.after.history writes.work outcome writes.closing work.0 new itself closed before work.2 in
     record { file = after.1.file; others = after.1.others }
 
--- Where there is no file for it, FILE stays.
+-- If there is no file for it, FILE stays.
 module _ (leads : Text → Text) {file : Text} {old new : Disk} where
   as_it_was : IsSameDisk old new → IsLeft (leads file) old new
   as_it_was same = record { file = inl (same (leads file)); others = λ at not_file. same at }

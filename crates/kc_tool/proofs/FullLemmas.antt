@@ -1,4 +1,4 @@
--- Where a run may end with a full stripe.
+-- When a run may end with a full stripe.
 use Rattle.std.proofs.Common.{◌≡◌, ◌*◌, ◌+◌, ◌-◌, ◌^◌, ◌<◌, ℕ, List, All, min, inl, inr, sym, subst, arith}
 use Rattle.std.proofs.Math.Pow.{pow-lt}
 use Rattle.std.proofs.lemmas.List.Elements.{All-contains}
@@ -20,7 +20,7 @@ more_words k stripe_bits less =
     let bits : most_log + stripe_bits < 2 * k = omega (arith, less) in
     subst (λ n. n < 4 ^ k) (pow-add 2 most_log stripe_bits) (subst (λ n. 2 ^ (most_log + stripe_bits) < n) (sym (pow-four k)) (pow-lt bits))
 
--- So where a table of a count may be full, there are more words than slots.
+-- So if a table of a count may be full, there are more words than slots.
 full_tables : (setup : StripeSetup) (tables : List Table) → All (λ table. table.bits ≡ key_bits setup) tables
     → All (λ table. table.max_log ≡ min most_log (key_bits setup)) tables → MayEverBeFull (SomeTableMayBeFull MayBeFull tables)
     → 2 ^ most_log * stripe_count setup < 4 ^ setup.rule.k
@@ -29,7 +29,7 @@ full_tables setup tables bits max_log (counts, key, (table, there, full)) =
     let most = All-contains (λ (t : Table). t.max_log ≡ min most_log (key_bits setup)) tables table max_log there in
     more_words setup.rule.k setup.stripe_bits (subst (λ n. n < key_bits setup) most (subst (λ n. table.max_log < n) wide full.0))
 
--- A fault that is possible where one thing holds is possible where another follows from it.
+-- A fault that is possible under one condition is possible under another that follows from it.
 fault_where : {A B : Type 0} (workers stripes : ℕ) (fault : RunFault) → (A → B) → IsRunFault A workers stripes fault → IsRunFault B workers stripes fault
 fault_where workers stripes fault so (inr refused) = inr refused
 fault_where workers stripes run.Memory so (inl it) = inl it

@@ -1,17 +1,21 @@
 -- Reading the sources of a task one by one.
-use Rattle.std.proofs.Common.{◌≡◌, ◌∙◌, ◌≤◌, ◌<◌, ◌+◌, ◌-◌, ℕ, List, [], ◌∷◌, length, drop, get_or, set, max, take, refl, sym, ap, subst, arith}
+use Rattle.std.proofs.Common.{◌≡◌, ◌∙◌, ◌≤◌, ◌<◌, ◌+◌, ◌-◌, ℕ, zero, suc, All, List, [], ◌∷◌, ◌++◌, map, length, drop, get_or, set, max, take, refl, sym, ap, subst, arith}
 use Rattle.std.proofs.Common.{inl, inr}
 use Rattle.std.specs.Prelude.{Result, Ok, Err, IfOk, IfErr, Some}
 use Rattle.std.proofs.Math.Seq.{map-set_same}
 use Rattle.std.proofs.lemmas.List.{drop-set-add, drop_all, get_or-drop, get_or-map, length-drop, length-map, length-set, map-set, take-set-le}
 use Rattle.kc_io.specs.Sources.{Seen}
-use Rattle.kc_report.specs.Merging.{Merges}
+use Rattle.kc_combine.specs.CombinedTexts.{GiveTables}
+use Rattle.kc_combine.specs.JudgedTexts.{GiveTablesTo, HasFirstFault}
+use Rattle.kc_combine.specs.declared.loaded_tables.LoadedTable.{LoadedTable}
+use Rattle.kc_combine.proofs.JudgedTextLemmas.{give_all, give_more}
+use Rattle.kc_report.specs.declared.report_faults.ReportFault.{ReportFault}
 use Rattle.kc_report.specs.AskedWords.{GivesCountsOf}
 use Rattle.kc_report.specs.Numbers.{GivesNumbers, NumbersSeen}
 use Rattle.kc_report.specs.Table.{MaySay}
-use Rattle.kc_report.specs.TableReading.{GivesTable}
+use Rattle.kc_report.specs.TableReading.{GivesTable, RefusesTable}
 use Rattle.kc_tally.specs.Tally.{TallySeen}
-use Rattle.kc_tool.specs.Commands.{KeepsInput, given_listed, MergesNot, TellNoSum, TellNoTable, TellOneTable, TellOneTableOf, TellSum, TellsOrNot}
+use Rattle.kc_tool.specs.Commands.{KeepsInput, given_listed, TellFirstFault, TellNoTable, TellOneTable, TellOneTableOf, TellsOrNot}
 use Rattle.kc_tool.specs.Commands.{TellCountsOf, TellsCountsOrNot, TellsNumbersOrNot, most_table_bytes, sources_from}
 use Rattle.kc_tool.specs.GivenSources.{Keeps, KeepsFiles, ReadsAt, files_in, listed_in, seen_in}
 use Rattle.kc_tool.specs.NamedSources.{names_of, seen_of}
@@ -35,12 +39,12 @@ module _ {S : Type 0} (seen : S → Seen) (input : Seen) (files : List (NamedSou
   pub counted : (n : ℕ) → n ≡ max (length files - own) 1 → n ≡ length (sources_from input behind)
   counted n is = counted_from input behind n (is ∙ ap (λ m. max m 1) (sym many))
 
--- The given input is as it was.
+-- The given input is unchanged.
 pub same_input : (input : Seen) (sources : List Seen) → KeepsInput sources input input
 same_input input [] = tt
 same_input input (source ∷ sources) = refl
 
--- Where there are files, they are the sources.
+-- If there are files, they are the sources.
 some_from : (input : Seen) (files : List Seen) → 1 ≤ length files → sources_from input files ≡ files
 some_from input [] some = absurd (omega (arith, some))
 some_from input (file ∷ files) some = refl
@@ -76,14 +80,14 @@ file_read seen input files own i d later more within Reads h =
       reads = h;
     }
 
--- The files before the sources are as they were.
+-- The files before the sources are unchanged.
 pub still_before : {S : Type 0} (seen : S → Seen) (files : List (NamedSource S)) (own i : ℕ) (later : NamedSource S)
     → take own (seen_of seen (set files (own + i) later)) ≡ take own (seen_of seen files)
 still_before seen files own i later =
     ap (take own) (map-set (λ (file : NamedSource _). seen file.source) files (own + i) later)
     ∙ take-set-le own (seen_of seen files) (own + i) (seen later.source) (omega arith)
 
--- The input is read where no file is a source.
+-- The input is read if no file is a source.
 pub input_read : (input later : Seen) (files : List Seen) (own i : ℕ) → length files ≤ own → i < length (sources_from input (drop own files))
     → (Reads : Seen → Seen → Type 0) → Reads input later
     → ReadsAt i (sources_from input (drop own files)) (sources_from later (drop own files)) Reads
@@ -202,7 +206,7 @@ module _ {R F : Type 0} (seen : R → Seen) (seen_file : F → Seen) where
     first_later [] some = absurd (omega (arith, some))
     first_later (file ∷ files) some = refl
 
-    -- What holds of it and of the sources holds of all that was given.
+    -- What holds for it and for the sources holds for all that was given.
     pub listed_done : mid.input ≡ old.input → (new : GivenSources R F) → Keeps seen seen_file mid new → (Holds : Given → Given → Type 0)
         → Holds (given (Some (seen_file (get_or old.files.now 0 d).source)) (seen_in seen seen_file mid))
         (given (Some (seen_file later)) (seen_in seen seen_file new))
@@ -227,7 +231,7 @@ module _ {R F : Type 0} (seen : R → Seen) (seen_file : F → Seen) where
         subst (λ v. Holds v (listed_in seen seen_file new)) (sym before)
         (subst (λ v. Holds (given (Some (seen_file (get_or old.files.now 0 d).source)) (seen_in seen seen_file mid)) v) (sym after) h)
 
-    -- It is refused, and the sources are as they were.
+    -- It is refused, and the sources are unchanged.
     pub listed_left : mid.input ≡ old.input → (Holds : Given → Given → Type 0)
         → ((sources : List Seen) → Holds (given (Some (seen_file (get_or old.files.now 0 d).source)) sources) (given (Some (seen_file later)) sources))
         → Holds (listed_in seen seen_file old) (listed_in seen seen_file mid)
@@ -270,53 +274,59 @@ one_asked words (a ∷ []) new (Ok few) one at =
 one_asked words (a ∷ []) new (Err fault) one at =
     (tt, subst (λ v. TellNoTable (a ∷ []) v fault) (sym at.are) (subst (λ v. TellsCountsOrNot words v at.later (Err fault)) (sym at.was) at.reads))
 
--- The tables of two sources.
-pub first_untold : (old new : List Seen) (fault : ToolFault) → length old ≡ 2
-    → ReadsAt 0 old new (λ before after. TellsOrNot 1 before after (Err fault)) → TellNoSum old new fault
-first_untold [] new fault two at = absurd (omega (arith, two))
-first_untold (a ∷ []) new fault two at = absurd (omega (arith, two))
-first_untold (a ∷ b ∷ c ∷ old) new fault two at = absurd (omega (arith, two))
-first_untold (a ∷ b ∷ []) new fault two at =
-    subst (λ v. TellNoSum (a ∷ b ∷ []) v fault) (sym at.are)
-    (inl (subst (λ v. TellsOrNot 1 v at.later (Err fault)) (sym at.was) at.reads, refl))
+-- ---- the tables of all sources
 
--- What both come to.
-module _ (table : TableSeen) (outcome : Result TableSeen ToolFault) where
-  abbrev Comes : List Seen → List Seen → Type 0
-  Comes old new = (later : Seen) × (first_after : Seen) × (second : Seen) × (first : Seen)
-      × (old ≡ first ∷ second ∷ []) × (new ≡ first_after ∷ later ∷ []) × GivesTable first first_after most_table_bytes table
-      × TellsOrNot 2 second later outcome
+-- one more source gave a table
+pub table_more : (i : ℕ) (olds news after : List Seen) (tables : List TableSeen) (table : TableSeen)
+    → GiveTablesTo (λ seen. seen) i most_table_bytes olds news tables → i < length news → length news ≡ length olds
+    → ReadsAt i news after (λ before now. TellsOrNot (i + 1) before now (Ok table))
+    → GiveTablesTo (λ seen. seen) (suc i) most_table_bytes olds after (tables ++ table ∷ [])
+table_more i olds news after tables table to within long at =
+    subst (λ v. GiveTablesTo (λ seen. seen) (suc i) most_table_bytes olds v (tables ++ table ∷ [])) (sym at.are)
+    (give_more (λ seen. seen) most_table_bytes i olds news tables at.later at.here table to (omega (arith, within, long))
+    (subst (λ v. GivesTable v at.later most_table_bytes table) (sym at.was) at.reads.0))
 
-  pub both_read : (old mid new : List Seen) → length old ≡ 2 → ReadsAt 0 old mid (λ before after. TellsOrNot 1 before after (Ok table))
-      → ReadsAt 1 mid new (λ before after. TellsOrNot 2 before after outcome) → Comes old new
-  both_read [] mid new two first second = absurd (omega (arith, two))
-  both_read (a ∷ []) mid new two first second = absurd (omega (arith, two))
-  both_read (a ∷ b ∷ c ∷ old) mid new two first second = absurd (omega (arith, two))
-  both_read (a ∷ b ∷ []) mid new two first second =
-      let was : b ≡ second.here = sym (ap (λ v. get_or v 1 second.here) first.are) ∙ second.was in
-      let are : new ≡ first.later ∷ second.later ∷ [] = second.are ∙ ap (λ v. set v 1 second.later) first.are in (
-        second.later,
-        first.later,
-        b,
-        a,
-        refl,
-        are,
-        subst (λ v. GivesTable v first.later most_table_bytes table) (sym first.was) first.reads.0,
-        subst (λ v. TellsOrNot 2 v second.later outcome) (sym was) second.reads,
-      )
+-- the next one gave none
+pub table_fails : (i : ℕ) (olds news after : List Seen) (tables : List TableSeen) (fault : ToolFault)
+    → GiveTablesTo (λ seen. seen) i most_table_bytes olds news tables → i < length news → length news ≡ length olds
+    → ReadsAt i news after (λ before now. TellsOrNot (i + 1) before now (Err fault)) → TellFirstFault olds after fault
+table_fails i olds news after tables fault to within long at =
+    let why = at.reads in
+    inl (record { place = i + 1; fault = why.0 }, first why.0 why.1, why.2) where
+      first : (why : ReportFault) → RefusesTable at.here at.later most_table_bytes why
+          → HasFirstFault (λ seen. seen) most_table_bytes olds after (record { place = i + 1; fault = why })
+      first why refused = record {
+        i = i;
+        within = omega (arith, within, long);
+        tables = tables;
+        before = news;
+        given = to;
+        old = at.here;
+        was = at.was;
+        new = at.later;
+        are = at.are;
+        place = refl;
+        refused = refused;
+      }
 
-pub second_untold : (old new : List Seen) (table : TableSeen) (fault : ToolFault) → Comes table (Err fault) old new → TellNoSum old new fault
-second_untold old new table fault h =
-    subst (λ v. TellNoSum v new fault) (sym h.4) (subst (λ v. TellNoSum (h.3 ∷ h.2 ∷ []) v fault) (sym h.5) (inr (inl (table, h.6, h.7))))
+-- a header can have the origin of each
+pub said_more : (tables : List LoadedTable) (table : LoadedTable) → All (λ table. MaySay table.origin) tables → MaySay table.origin
+    → All (λ table. MaySay table.origin) (tables ++ table ∷ [])
+said_more [] table all said zero d h = said
+said_more [] table all said (suc i) d h = absurd (omega (arith, h))
+said_more (first ∷ tables) table all said zero d h = all 0 d (omega arith)
+said_more (first ∷ tables) table all said (suc i) d h =
+    said_more tables table (λ i d h. all (suc i) d (omega (arith, h))) said i d (omega (arith, h))
 
-pub added : (old new : List Seen) (table other sum : TableSeen) → Comes table (Ok other) old new
-    → Merges table.0 other.0 table.1 other.1 (Ok sum) → TellSum old new sum
-added old new table other sum h m =
-    subst (λ v. TellSum v new sum) (sym h.4) (subst (λ v. TellSum (h.3 ∷ h.2 ∷ []) v sum) (sym h.5)
-    (table, other, record { told = h.6; other_told = h.7.0 }, m))
+same_list : {A : Type 0} (xs : List A) → map (λ x. x) xs ≡ xs
+same_list [] = refl
+same_list (x ∷ xs) = ap (λ ys. x ∷ ys) (same_list xs)
 
-pub not_added : (old new : List Seen) (table other : TableSeen) (fault : ToolFault) → Comes table (Ok other) old new
-    → MergesNot table.0 other.0 table.1 other.1 fault → TellNoSum old new fault
-not_added old new table other fault h m =
-    subst (λ v. TellNoSum v new fault) (sym h.4) (subst (λ v. TellNoSum (h.3 ∷ h.2 ∷ []) v fault) (sym h.5)
-    (inr (inr (table, other, record { told = h.6; other_told = h.7.0 }, m))))
+-- all gave tables
+pub tables_all : (i : ℕ) (olds news : List Seen) (tables : List TableSeen)
+    → GiveTablesTo (λ seen. seen) i most_table_bytes olds news tables → length olds ≤ i → length news ≡ length olds
+    → GiveTables most_table_bytes olds news tables
+tables_all i olds news tables to all long =
+    subst (λ v. GiveTables most_table_bytes v news tables) (same_list olds)
+    (subst (λ v. GiveTables most_table_bytes (map (λ seen. seen) olds) v tables) (same_list news)
+    (give_all (λ seen. seen) most_table_bytes i olds news tables to all long))

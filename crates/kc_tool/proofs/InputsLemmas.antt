@@ -10,7 +10,7 @@ use Rattle.kc_fastx.specs.declared.read_faults.FastxFault.{FastxFault}
 use Rattle.kc_tool.specs.Tallies.{FailsAt, GaveInputs, GaveReads, ReadsSources}
 use Rattle.kc_tool.proofs.PlaceLemmas.{TakenSoFar, none_taken, one_taken, next_place, all_taken}
 
--- The sources before this one were read, and it and those behind it are as they were.
+-- The sources before this one were read, and it and those after it are unchanged.
 pub record ReadSoFar (old new : List Seen) (reads : List Read) (left number : ℕ) : Type 0 where
   pub taken : TakenSoFar old new number
   pub inputs : List (List ℕ)

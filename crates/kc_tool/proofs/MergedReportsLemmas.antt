@@ -1,4 +1,4 @@
--- Reports that are merged tell the reads of both.
+-- Merged reports have the reads of both.
 use Rattle.std.proofs.Common.{◌≡◌, ℕ, zero, suc, ◌+◌, ◌-◌, ◌^◌, ◌≤◌, Bool, true, false, List, [], ◌∷◌, ◌++◌}
 use Rattle.std.proofs.Common.{length, map, drop, append_assoc, get_or, eqb, refl, sym, ◌∙◌, ap, subst, arith}
 use Rattle.std.proofs.Common.{ap₂, eq-eqb, ne_eqb, ⊎_elim}
@@ -29,13 +29,21 @@ use Rattle.kc_tally.specs.Tally.{AreRows, IsTallyOf, TallySeen, count_of, total_
 use Rattle.kc_tally.specs.Sum.{IsSum}
 use Rattle.kc_tally.proofs.Tallies.{bounded_tally, one_value, summed_tally, tally-AreRows, tally_total}
 use Rattle.kc_report.specs.Table.{table_text}
+use Rattle.kc_io.specs.Sinks.{HasWritten}
+use Rattle.kc_combine.specs.CombinedTexts.{CombinesTables, GiveTables}
+use Rattle.kc_combine.specs.JudgedTexts.{FitsInto, total_of_all}
+use Rattle.kc_combine.specs.declared.combining.Combining.TheVariants as combination
+use Rattle.kc_combine.specs.declared.written_tables.Totals.{Totals}
+use Rattle.kc_combine.proofs.LoadedTableLemmas.{writes_merged}
+use Rattle.kc_combine.proofs.MergedLemmas.{merges_two}
+use Rattle.kc_tool.specs.Commands.{most_table_bytes}
 use Rattle.kc_report.specs.TableReading.{IsTable, IsTableOf}
 use Rattle.kc_report.specs.Merging.{IsCountRead, counted_from, joined_origin, reads_together}
 use Rattle.kc_report.proofs.MergingLemmas.{counts_match}
 use Rattle.kc_report.proofs.TableAnswers.{same_tally}
 use Rattle.kc_command.specs.declared.settings.Print.TheVariants as print
 use Rattle.kc_command.specs.Settings.{Settings, rule_of}
-use Rattle.kc_tool.specs.MergedReports.{ApartIsTogether, IsReportOn, MergeWritesMerged, MergedReports, ReportsFit}
+use Rattle.kc_tool.specs.MergedReports.{ApartIsTogether, AreMerged, IsReportOn, MergeWritesMerged, MergedReports, ReportsFit}
 use Rattle.kc_tool.specs.MergedReports.{OneReport, ReportTellsReads, ReportsMatch, TellsReads}
 use Rattle.kc_tool.specs.Reports.{IsReportOf, printed_text}
 use Rattle.kc_tool.specs.Tallies.{GaveInputs, GivesList, TableSeen, TalliesSources, given}
@@ -72,7 +80,7 @@ few_of (bytes ∷ inputs) reads h =
       bases = rw h.4 (omega (arith, bases_here, rest.bases, long, bases));
     }
 
--- ---- what a count tells
+-- ---- the report of a count
 
 -- Settings for which the words have a length, and the floor is one of a quality line.
 pub record AreSettings (settings : Settings) : Type 0 where
@@ -136,9 +144,9 @@ report_tells settings are sources text is_table report =
       },
     )
 
--- ---- texts that tell reads
+-- ---- texts of reads
 
--- The text is read as the table that tells the reads.
+-- The text is read as the table of the reads.
 record IsRead (rule : CountingRule) (reads : List Read) (table : TableSeen) : Type 0 where
   counted : IsTallyOf rule reads table.0
   origin : table.1 ≡ counted_from rule reads
@@ -214,7 +222,7 @@ count_of-here row rows n e = cond-true (eqb row.word n) row.count (count_of rows
 count_of-past : (row : Row) (rows : List Row) (n : ℕ) → (row.word ≡ n → ⊥) → count_of (row ∷ rows) n ≡ count_of rows n
 count_of-past row rows n ne = cond-false (eqb row.word n) row.count (count_of rows n) (ne_eqb row.word n ne)
 
--- A word that has a count stands in a row.
+-- A word with a count has a row.
 counted_stands : (P : ℕ → Type 0) (rows : List Row) (n : ℕ) → All (λ row. P row.word) rows → 1 ≤ count_of rows n → P n
 counted_stands P [] n all some = absurd (omega (arith, some))
 counted_stands P (row ∷ rows) n all some =
@@ -309,9 +317,9 @@ merged_reports rule reads more first second text tells tells_ are =
       };
     }
 
--- ---- sources that tell their bytes
+-- ---- sources whose bytes are known
 
--- A source that was read to its end gave what the bytes say that it told.
+-- A source that was read to its end gave the text of its known bytes.
 gave_told : (old new : Seen) (limit : ℕ) (input bytes : List ℕ) → TakesAll old new limit input → old.left ≡ Some bytes
     → says bytes ≡ Ok input
 gave_told old new limit input bytes taken tells =
@@ -357,7 +365,7 @@ same_reads inputs reads others h h_ =
     same_answer_of_all inputs (Ok reads) (Ok others) h h_ in
     cc
 
--- What a report tells of sources that tell their bytes: the reads of what these say.
+-- The report on sources whose bytes are known: the reads of their text.
 record TellsInputs (settings : Settings) (inputs : List (List ℕ)) (text : List ℕ) : Type 0 where
   reads : List Read
   texts : List (List ℕ)
@@ -406,20 +414,29 @@ apart_is_together settings are inputs more first second merged whole is_table on
 -- ---- the command
 
 pub merge_writes : MergeWritesMerged
-merge_writes first second first_after second_after text told is =
-    let sum = is.1 in
-    let tables = sum.2 in (
-      tables.told.bytes,
-      tables.other_told.bytes,
-      tables.told.taken,
-      tables.other_told.taken,
-      record {
-        table = sum.0;
-        other = sum.1;
-        merged = is.0;
-        told = tables.told.has_table;
-        other_told = tables.other_told.has_table;
-        merges = sum.3;
-        is_text = is.2;
-      },
-    )
+merge_writes first second first_after second_after start now told is = two is.0 is.1 is.2 is.3.0 is.3.1 where
+  two : (tables : List TableSeen) → GiveTables most_table_bytes (first ∷ second ∷ []) (first_after ∷ second_after ∷ []) tables
+      → FitsInto combination.Merge (total_of_all tables) → (totals : Totals) → CombinesTables combination.Merge tables start now totals
+      → (one other text : List ℕ) × TakesAll first first_after most_table_bytes one
+      × TakesAll second second_after most_table_bytes other × AreMerged one other text × HasWritten start now text
+  two [] given fits totals made = absurd given
+  two (table ∷ []) given fits totals made = absurd given.1
+  two (table ∷ other ∷ more ∷ tables) given fits totals made = absurd given.1.1
+  two (table ∷ other ∷ []) given fits totals made =
+      let merged = writes_merged (table ∷ other ∷ []) start now totals made fits in (
+        given.0.bytes,
+        given.1.0.bytes,
+        table_text merged.0.0 merged.0.1,
+        given.0.taken,
+        given.1.0.taken,
+        record {
+          table = table;
+          other = other;
+          merged = merged.0;
+          told = given.0.has_table;
+          other_told = given.1.0.has_table;
+          merges = (merges_two table other (Ok merged.0)).0 merged.1;
+          is_text = refl;
+        },
+        merged.2,
+      )

@@ -10,7 +10,7 @@ use Rattle.kc_tool.specs.Outputs.{beside, is_of_system, looks_at, most_tries, ta
 use Rattle.kc_tool.specs.declared.files.NotMade.TheVariants as why
 use Rattle.kc_tool.specs.declared.tool_faults.ToolFault.{ToolFault}
 
--- What holds of each value that is answered.
+-- Facts about each value that is returned.
 pub for_ok : {A E : Type 0} {P Q R : A → Type 0} (answer : Result A E) → IfOk answer P → IfOk answer Q → ((value : A) → P value → Q value → R value) → IfOk answer R
 for_ok (Ok value) p q all = all value p q
 for_ok (Err fault) p q all = tt

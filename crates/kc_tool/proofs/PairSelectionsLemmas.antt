@@ -22,7 +22,7 @@ module _ {X : Type 0} where
       let some = length-append (x ∷ rest) (a ∷ []) in
       absurd (omega (arith, three, ap length last, ap length middle, ap length first, many, fewer, some))
 
--- What holds of three files that were taken, and are put back as they are then.
+-- Facts about three files that were taken, and are put back as they are then.
 pub pairs_given : {S : Type 0} (seen : S → Seen) (input : Seen) {all two one new : List (NamedSource S)} (rest : List (NamedSource S)) (a b c d e f : NamedSource S) → length all ≡ 3
     → all ≡ two ++ c ∷ [] → two ≡ one ++ b ∷ [] → one ≡ rest ++ a ∷ [] → new ≡ rest ++ d ∷ e ∷ f ∷ [] → (Holds : Given → Given → Type 0)
     → Holds (given (Some (seen a.source)) (seen b.source ∷ seen c.source ∷ [])) (given (Some (seen d.source)) (seen e.source ∷ seen f.source ∷ []))
@@ -33,7 +33,7 @@ pairs_given seen input {all} {two} {one} {new} rest a b c d e f three last middl
     subst (λ v. Holds (given_listed input (seen_of seen v)) (given_listed input (seen_of seen new))) (sym taken.0)
     (subst (λ v. Holds (given (Some (seen a.source)) (seen b.source ∷ seen c.source ∷ [])) (given_listed input (seen_of seen v))) (sym whole) h)
 
--- What is written to is as it was, in other words.
+-- What is written to is unchanged, in other words.
 pub kept_so : {Kept Other : Type 0} (Selects : Selecting) (pairing : Pairing) (old new : Given) (outcome : Result SelectionCounts ToolFault) → (Kept → Other)
     → SelectsPairsBy Selects Kept pairing old new outcome → SelectsPairsBy Selects Other pairing old new outcome
 kept_so Selects pairing old new outcome so (inl (table, tells, inl selects)) = inl (table, tells, inl selects)

@@ -1,11 +1,11 @@
--- Sources that are taken one after another: those before a place were taken, and the others are as they were.
+-- Sources that are taken one after another: those before a place were taken, and the others are unchanged.
 use Rattle.std.proofs.Common.{◌≡◌, ◌≤◌, ◌<◌, ◌+◌, ◌++◌, ◌∙◌, ℕ, List, [], ◌∷◌, length, get_or, set, refl, sym, ap, ap₂, arith, append_assoc, append-nil, length-append}
 use Rattle.std.proofs.lemmas.List.{nil_from_length}
 use Rattle.std.proofs.Math.Seq.{get_or-append_seam, set-append_seam}
 use Rattle.kc_io.specs.Sources.{Seen}
 use Rattle.kc_tool.specs.Tallies.{SourcePlace}
 
--- So many sources were taken, and those behind them are as they were.
+-- So many sources were taken, and those after them are unchanged.
 pub record TakenSoFar (old new : List Seen) (number : ℕ) : Type 0 where
   pub done : List Seen
   pub given : List Seen

@@ -53,7 +53,7 @@ count-either true bytes reads h =
 count-either false bytes reads h =
     omega (arith, few_lines bytes, length-skip_blanks (lines bytes), count-Records IsFastqRecord fastq_shorter (text_lines bytes) reads h.rest h.records)
 
--- No bytes say more reads than they are.
+-- No bytes have more reads than bytes.
 pub read_count-within : (bytes : List ℕ) (reads : List Read) → HasReads bytes reads → length reads ≤ length bytes
 read_count-within bytes reads h = count-either (next_begins_with greater_than (text_lines bytes)) bytes reads h
 

@@ -35,7 +35,7 @@ text_fault A text old new (BrokenTable place) h = absurd h
 text_fault A text old new (ShortTable place) h = absurd h
 text_fault A text old new (Unpaired number) h = absurd h
 
--- So it is whatever is answered of a text that is written.
+-- The same for any result of writing a text.
 pub still_fault : (A B : Type 0) (text : List ℕ) (old new : Written) (fault : ToolFault) → WritesText {A = A} text old new (Err fault)
     → WritesText {A = B} text old new (Err fault)
 still_fault A B text old new fault h =
@@ -50,7 +50,7 @@ pub put_otherwise : {Counted Other : TableSeen → Type 0} {Refused Another : To
 put_otherwise settings outcome counted refused (inl h) = inl (h.0, counted h.0 h.1, h.2, h.3)
 put_otherwise settings outcome counted refused (inr h) = inr (h.0, h.1, refused h.0 h.1 h.2, h.3)
 
--- Where there was no memory for a reader, nothing was written.
+-- If there was no memory for a reader, nothing was written.
 pub reader_lacked : {Counted : TableSeen → Type 0} {Refused : ToolFault → Type 0} (settings : Settings) (old new : Written) (fault : ToolFault)
     → reader_lacks_memory fault ≡ true → ReportsOn Counted Refused settings old new (Err fault) → new ≡ old
 reader_lacked settings old new fault lacks (inr h) = h.3

@@ -46,7 +46,7 @@ text-push tally rule lists here =
     ap (λ records. selected_text tally rule records) (records-push lists here)
     ∙ selected_text-append tally rule (all_records lists) here
 
--- ---- one source more gave its records
+-- ---- one more source gave its records
 
 GaveRecords-push : (limit left : ℕ) (olds news : List Seen) (records : List (List Record)) (old new : Seen)
     (here : List Record) (gives : GivesRecords old new left here) → GaveRecords limit left olds news records
@@ -111,7 +111,7 @@ within_bytes tally rule some old new limit records gives =
       solid = omega (arith, solid, words, bases);
     }
 
--- what is counted of one source more
+-- what is counted of one more source
 pub within_next : (rule : SelectionRule) (tally : TallySeen) (limit number : ℕ) (old new : Streams)
     (selected : Selected) → 1 ≤ tally.k → SelectsNext (task_within rule tally limit) number old new (Ok selected)
     → AreWithin limit selected.bytes selected.counts
@@ -129,8 +129,8 @@ sums_fit left bytes counts more fit within = record {
   solid = omega (arith, fit.solid, within.solid, within.bounded);
 }
 
--- The selected reads of the sources before this one were written, and all were counted; it and those behind it are as
--- they were.
+-- The selected reads of the sources before this one were written, and all were counted; it and those after it are
+-- unchanged.
 pub record SelectedSoFar (rule : SelectionRule) (tally : TallySeen) (old new : List Seen) (before after : Written)
     (counts : SelectionCounts) (left number : ℕ) : Type 0 where
   pub sources : TakenSoFar old new number

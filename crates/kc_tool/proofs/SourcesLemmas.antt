@@ -180,7 +180,7 @@ never_refused old new since fault empty h refused =
     let no : Ok [] ≡ Err fault = is in
     cc
 
--- A source of no bytes of which no read failed is refused for want of memory alone.
+-- A source of no bytes without a failed read is refused only for lack of memory.
 lacks_memory : (old new : Seen) → old.left ≡ Some [] → old.history.failures ≡ 0 → new.history.failures ≡ 0 → (limit : ℕ)
     (fault : FastxFault) → RefusesFor old new limit fault → fault ≡ LacksMemory
 lacks_memory old new empty unfailed still limit TooLong h =
@@ -204,13 +204,13 @@ none_read seen [] [] none same = ([], ([], record { gave = tt; within = omega ar
 none_read seen [] (source ∷ later) none same = let no : ⊥ = cc in absurd no
 none_read seen (file ∷ files) later none same = let no : ⊥ = cc in absurd no
 
--- Of a list of one, what stands between two parts is that one.
+-- In a list of one, what is between two parts is that one.
 only_one : {S : Type 0} (one : S) (before : List S) (here : S) (behind : List S) → one ∷ [] ≡ before ++ here ∷ behind → one ≡ here
 only_one one [] here behind is = cc
 only_one one (first ∷ before) here behind is =
     let no : ⊥ = omega (arith, ap length is, length-append before (here ∷ behind)) in absurd no
 
--- Where an input of no bytes stands beside sources, what comes of both comes of the sources alone.
+-- If an input of no bytes is beside sources, the result of both is that of the sources alone.
 module _ {S : Type 0} (seen : S → Seen) (input after : Seen) (empty : input.left ≡ Some []) where
   pub tallied_alone : (files later : List (NamedSource S)) → names_of later ≡ names_of files → (settings : Settings)
       (list : Option (List ℕ)) (table : TableSeen)
@@ -227,7 +227,7 @@ module _ {S : Type 0} (seen : S → Seen) (input after : Seen) (empty : input.le
   tallied_alone (file ∷ files) [] same settings list table h = let no : ⊥ = cc in absurd no
   tallied_alone (file ∷ files) (source ∷ later) same settings list table h = h
 
-  -- Where no read of it failed either, and there are no sources, its reader can only have lacked memory.
+  -- If no read of it failed either, and there are no sources, its reader can only have lacked memory.
   refused_nothing : (files later : List (NamedSource S)) → files ≡ [] → names_of later ≡ names_of files
       → input.history.failures ≡ 0 → after.history.failures ≡ 0 → (number : ℕ) (fault : FastxFault)
       → FailsAt (sources_from input (seen_of seen files)) (sources_from after (seen_of seen later)) number fault → fault ≡ LacksMemory
@@ -281,7 +281,7 @@ gave_list rule (Some before) (Some after) (Some words) h = (h.1.reads, h.1.bytes
 gave_list rule (Some before) (Some after) None h = absurd h
 gave_list rule (Some before) None list h = absurd h
 
--- The list, where one is given, was read, and then the sources were.
+-- The list, if one is given, was read, and then the sources were.
 module _ (list : Option (List ℕ)) (before after : Option Seen) (old new : List Seen) (settings : Settings)
     (listed : GivesList (rule_of settings) before after list) where
   pub sources_counted : (table : TableSeen) → TalliesSources old new settings list table
@@ -330,7 +330,7 @@ list_refused before after sources settings (BrokenTable place) h = absurd h
 list_refused before after sources settings (ShortTable place) h = absurd h
 list_refused before after sources settings (Unpaired number) h = absurd h
 
--- The same, where the list was read for good.
+-- The same, if the list was read for good.
 pub list_left : (source : Option Seen) (sources : List Seen) (settings : Settings) (fault : ToolFault) → ListFailsIn source fault
     → (later : Given) × RefusesCount (given source sources) later settings fault
 list_left None sources settings fault h = absurd h

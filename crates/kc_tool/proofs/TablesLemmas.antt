@@ -1,4 +1,4 @@
--- The origins of two tables that are put together.
+-- The origins of two tables that are added.
 use Rattle.std.proofs.Common.{◌≡◌, Bor, refl}
 use Rattle.std.specs.Prelude.{Option, Some, None, option_map}
 use Rattle.std.specs.Option.{option_copied}

@@ -42,7 +42,7 @@ few_enough batches letters few within = omega arith
 pub small_enough : (positions letters : ℕ) → positions ≤ letters → letters ≤ most_bytes → positions ≤ 2 ^ 62
 small_enough positions letters small within = omega arith
 
--- What holds of each element by two facts.
+-- Facts about each element by two facts.
 pub All-both : {X : Type 0} (P Q : X → Type 0) (xs : List X) → All P xs → All Q xs → All (λ x. P x × Q x) xs
 All-both P Q [] p q = All-nil (λ x. P x × Q x)
 All-both P Q (x ∷ xs) p q = All-cons (λ x. P x × Q x) x xs (All-head P x xs p, All-head Q x xs q) (All-both P Q xs (All-tail P x xs p) (All-tail Q x xs q))

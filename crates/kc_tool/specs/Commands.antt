@@ -1,6 +1,6 @@
--- What a command comes to: its task, its sources, and what is written.
--- Source: the README ("The commands") and our formats page.
-use Rattle.std.specs.Prelude.{◌≡◌, ◌⊎◌, ◌^◌, ◌≤◌, ℕ, Bool, false, List, [], ◌∷◌, ◌++◌, Option, Some, None, All}
+-- The effect of a command: its task, its sources, and what is written.
+-- Source: our manual page and our formats page.
+use Rattle.std.specs.Prelude.{◌≡◌, ◌⊎◌, ◌^◌, ◌≤◌, ℕ, Bool, true, false, List, [], ◌∷◌, ◌++◌, Option, Some, None, All}
 use Rattle.std.specs.Prelude.{map, length, take, drop}
 use Rattle.std.specs.Prelude.{Result, Ok, Err, if◌then◌else◌, codes, string_bytes, unwrap_or, ⊤}
 use Rattle.std.specs.Str.{bytes_eq}
@@ -14,9 +14,17 @@ use Rattle.kc_report.specs.Numbers.{GivesNumbers, IsCountOf, NumbersSeen}
 use Rattle.kc_report.specs.Querying.{IsAskable, IsFirstBadWord, query_text}
 use Rattle.kc_report.specs.Table.{MaySay, table_text}
 use Rattle.kc_report.specs.TableReading.{GivesTable, RefusesTable}
-use Rattle.kc_report.specs.Merging.{Merges}
+use Rattle.kc_combine.specs.CombinedTexts.{CombinesTables, GiveTables}
+use Rattle.kc_combine.specs.JudgedTexts.{FitsInto, HasFirstFault, total_of_all}
+use Rattle.kc_combine.specs.LoadedTables.{CombinesNoTables}
+use Rattle.kc_combine.specs.declared.combining.Combining.{Combining}
+use Rattle.kc_combine.specs.declared.combining.Combining.TheVariants as combination
+use Rattle.kc_combine.specs.declared.placed_fault.PlacedFault.{PlacedFault}
+use Rattle.kc_combine.specs.declared.written_tables.CombineFault.{CombineFault}
+use Rattle.kc_combine.specs.declared.written_tables.Totals.{Totals}
 use Rattle.kc_command.specs.Arguments.{AsksFor, AsksForDump, first_bad, first_bad_of_dump, first_bad_of_histo, high_of}
-use Rattle.kc_command.specs.Arguments.{first_table_of, only_of, second_table_of, AsksForSelection, IsFlag}
+use Rattle.kc_command.specs.Arguments.{only_of, tables_of, AsksForFilter, AsksForIntersection, AsksForSelection}
+use Rattle.kc_command.specs.Arguments.{AsksForSubtraction, IsFlag, first_bad_of_intersect, has_too_many_tables}
 use Rattle.kc_command.specs.Arguments.{AsksForPairs, AsksForProfile, first_bad_of_profile, first_bad_of_select}
 use Rattle.kc_command.specs.Arguments.{pairs_refusal}
 use Rattle.kc_select.specs.Solid.{SelectionRule}
@@ -25,11 +33,12 @@ use Rattle.kc_select.specs.declared.selection_counts.SelectionCounts.{SelectionC
 use Rattle.kc_select.specs.declared.sides.Sides.{Sides}
 use Rattle.kc_tool.specs.PairSelections.{Selecting, SelectsPairsFrom, both, pairs_task}
 use Rattle.kc_tool.specs.Selections.{SelectsFrom}
-use Rattle.kc_tool.specs.Told.{counted_of, counted_with}
+use Rattle.kc_tool.specs.Told.{counted_in, counted_of}
 use Rattle.kc_command.specs.declared.option_name.OptionName.{OptionName}
-use Rattle.kc_command.specs.declared.pair_options.PairsRefusal.{PairsRefusal}
+use Rattle.kc_tool.specs.declared.option_tips.Conflict.{Conflict}
+use Rattle.kc_tool.specs.declared.option_tips.Conflict.TheVariants.{Pairs, TooManyTables}
 use Rattle.kc_command.specs.declared.settings.Print.TheVariants as print
-use Rattle.kc_tool.specs.Faults.{report_fault, table_fault}
+use Rattle.kc_tool.specs.Faults.{combine_fault, table_fault}
 use Rattle.kc_tool.specs.FileEvents.{FileEvent}
 use Rattle.kc_tool.specs.Files.{AreOf, AreOpened, FileRead, FileWritten, LacksFile, LacksRoom, LacksSecond}
 use Rattle.kc_tool.specs.Files.{files_named, given_back, openings, output2_of, output_of, returned, words_asked}
@@ -46,23 +55,23 @@ use Rattle.kc_tool.specs.declared.told.CountedWords.{CountedWords}
 use Rattle.kc_tool.specs.declared.told.Told.{Told}
 use Rattle.kc_tool.specs.declared.told.Told.TheVariants as says
 use Rattle.kc_tool.specs.declared.commands.Task.{Task}
-use Rattle.kc_tool.specs.declared.commands.Task.TheVariants.{Count, CountListed, Report, Query, Merge, Select}
+use Rattle.kc_tool.specs.declared.commands.Task.TheVariants.{Count, CountListed, Report, Query, Combine, Select}
 use Rattle.kc_tool.specs.declared.commands.Task.TheVariants.{SelectPairs}
 use Rattle.kc_tool.specs.declared.paired_sources.Pairing.{Pairing}
 use Rattle.kc_tool.specs.declared.commands.Verb.{Verb}
 use Rattle.kc_tool.specs.declared.commands.Verb.TheVariants as verb
 
--- the most bytes that a table may have
+-- the greatest number of bytes of a table
 abbrev pub most_table_bytes : ℕ
 most_table_bytes = 2 ^ 42
 
--- the one source of a task gave the table text of this tally in this call, up to the end that it told. Of each source
--- the first list has what is seen before the call, the second what is seen after it
+-- the one source of a task gave the table text of this tally in this call, up to its end. The first list has the views
+-- of the sources before the call, the second those after it
 abbrev pub TellOneTable : List Seen → List Seen → TableSeen → Type 0
 TellOneTable (old ∷ []) (new ∷ []) table = GivesTable old new most_table_bytes table
 TellOneTable old new table = ⊥
 
--- it gave no table, for this reason; it is the source of the table of this place, from 1
+-- the source gave no table, for this reason; it is the source of table number `place`, from 1
 abbrev pub TellsNoTable : ℕ → Seen → Seen → ToolFault → Type 0
 TellsNoTable place old new fault =
     (why : ReportFault) × RefusesTable old new most_table_bytes why × (fault ≡ table_fault place why)
@@ -71,32 +80,32 @@ abbrev pub TellNoTable : List Seen → List Seen → ToolFault → Type 0
 TellNoTable (old ∷ []) (new ∷ []) fault = TellsNoTable 1 old new fault
 TellNoTable old new fault = ⊥
 
--- it gave one of these numbers, or none
+-- the source gave a table with these numbers, or none
 abbrev pub TellsNumbersOrNot : ℕ → Seen → Seen → Result NumbersSeen ToolFault → Type 0
 TellsNumbersOrNot high old new (Ok numbers) = GivesNumbers old new most_table_bytes high numbers
 TellsNumbersOrNot high old new (Err fault) = TellsNoTable 1 old new fault
 
--- the one source of a task gave a table of these numbers
+-- the one source of a task gave a table with these numbers
 abbrev pub TellOneTableOf : ℕ → List Seen → List Seen → NumbersSeen → Type 0
 TellOneTableOf high old new numbers =
     (table : TableSeen) × TellOneTable old new table × IsCountOf high table.0.rows numbers
 
--- it gave one of which these are the rows of the asked words, or none
+-- the source gave a table with these counts of the asked words, or none
 abbrev pub TellsCountsOrNot : List (List ℕ) → Seen → Seen → Result TallySeen ToolFault → Type 0
 TellsCountsOrNot words old new (Ok few) = GivesCountsOf old new most_table_bytes words few
 TellsCountsOrNot words old new (Err fault) = TellsNoTable 1 old new fault
 
--- the one source of a task gave a table of which these are the rows of the asked words
+-- the one source of a task gave a table with these counts of the asked words
 abbrev pub TellCountsOf : List (List ℕ) → List Seen → List Seen → TallySeen → Type 0
 TellCountsOf words old new few =
     (table : TableSeen) × TellOneTable old new table × HasCountsOf table.0 words few
 
--- it gave this one, whose origin a header can say, or none
+-- the source gave this table, with an origin that a header can have, or none
 abbrev pub TellsOrNot : ℕ → Seen → Seen → Result TableSeen ToolFault → Type 0
 TellsOrNot place old new (Ok table) = GivesTable old new most_table_bytes table × MaySay table.1
 TellsOrNot place old new (Err fault) = TellsNoTable place old new fault
 
--- the source of a table told this one, or none, for this reason
+-- the source of a table gave this one, or none, for this reason
 abbrev pub TellsTableOf : Option Seen → Option Seen → TableSeen → Type 0
 TellsTableOf (Some old) (Some new) table = GivesTable old new most_table_bytes table
 TellsTableOf old new table = ⊥
@@ -105,55 +114,42 @@ abbrev pub TellsNoTableOf : Option Seen → Option Seen → ToolFault → Type 0
 TellsNoTableOf (Some old) (Some new) fault = TellsNoTable 1 old new fault
 TellsNoTableOf old new fault = ⊥
 
--- two sources gave the table texts of these tallies
-pub record TellTables (first second first_after second_after : Seen) (table other : TableSeen) : Type 0 where
-  pub told : GivesTable first first_after most_table_bytes table
-  pub other_told : GivesTable second second_after most_table_bytes other
+-- the first table with a fault, and its place: the tables before it were read, and nothing of those after it; or there
+-- was no memory for so many tables, and nothing was read
+abbrev pub TellFirstFault : List Seen → List Seen → ToolFault → Type 0
+TellFirstFault old new fault = ((placed : PlacedFault) × HasFirstFault (λ seen. seen) most_table_bytes old new placed
+    × (fault ≡ table_fault placed.place placed.fault)) ⊎ ((new ≡ old) × (fault ≡ Memory))
 
--- two sources gave tables whose sum is this one
-abbrev pub TellSum : List Seen → List Seen → TableSeen → Type 0
-TellSum (first ∷ second ∷ []) (first_after ∷ second_after ∷ []) sum =
-    (table : TableSeen) × (other : TableSeen) × TellTables first second first_after second_after table other
-    × Merges table.0 other.0 table.1 other.1 (Ok sum)
-TellSum old new sum = ⊥
+-- The effect of a combination: the sources gave tables, and the table text of their combination was written; or a table
+-- has a fault, and nothing was written; or the tables have no combination, or its text was not written whole.
+abbrev pub Combines : Combining → List Seen → List Seen → Written → Written → Result Told ToolFault → Type 0
+Combines combining old new start now (Ok told) = (tables : List TableSeen)
+    × GiveTables most_table_bytes old new tables × FitsInto combining (total_of_all tables)
+    × ((totals : Totals) × CombinesTables combining tables start now totals × (told ≡ says.Counted (counted_in totals)))
+Combines combining old new start now (Err fault) = ((now ≡ start) × TellFirstFault old new fault)
+    ⊎ ((tables : List TableSeen) × GiveTables most_table_bytes old new tables × ((why : CombineFault PlacedFault)
+    × CombinesNoTables combining tables start now why × (fault ≡ combine_fault why)))
 
--- why two tables have no sum
-abbrev pub MergesNot : TallySeen → TallySeen → Option Origin → Option Origin → ToolFault → Type 0
-MergesNot tally other origin another fault =
-    (why : ReportFault) × Merges tally other origin another (Err why) × (fault ≡ report_fault why)
-
--- why two sources gave no sum: the first gave no table, and the second is as it was; or the second gave none; or their
--- tables can't be added
-abbrev pub TellNoSum : List Seen → List Seen → ToolFault → Type 0
-TellNoSum (first ∷ second ∷ []) (first_after ∷ second_after ∷ []) fault =
-    (TellsNoTable 1 first first_after fault × (second_after ≡ second))
-    ⊎ ((table : TableSeen) × GivesTable first first_after most_table_bytes table
-    × TellsNoTable 2 second second_after fault)
-    ⊎ ((table : TableSeen) × (other : TableSeen) × TellTables first second first_after second_after table other
-    × MergesNot table.0 other.0 table.1 other.1 fault)
-TellNoSum old new fault = ⊥
-
--- the sources of a command: the files that were opened, or the given input where there are none
+-- the sources of a command: the files that were opened, or the given input if there are none
 abbrev pub sources_from : Seen → List Seen → List Seen
 sources_from input [] = input ∷ []
 sources_from input (file ∷ files) = file ∷ files
 
--- how many of the files of a task come before its sources: its list, or the table of a selection
+-- how many of a task's files come before its sources: its list, or the table of a selection
 abbrev pub own_of : Task → ℕ
 own_of (CountListed settings) = 1
 own_of (Select rule tells) = 1
 own_of (SelectPairs pairing) = 1
 own_of task = 0
 
--- of the files of a task the first is its list, or its table, where it has one beside its sources, and the others are
--- sources
+-- the sources among a task's files: all but the first if that is its list or its table
 abbrev pub sources_in : Task → List Seen → List Seen
 sources_in (CountListed settings) files = drop 1 files
 sources_in (Select rule tells) files = drop 1 files
 sources_in (SelectPairs pairing) files = drop 1 files
 sources_in task files = files
 
--- what a count with a list is given, or a selection: the first file is the list, or the table
+-- what a count with a list, or a selection, is given: the first file is the list, or the table
 abbrev pub given_listed : Seen → List Seen → Given
 given_listed input [] = given None (input ∷ [])
 given_listed input (list ∷ files) = given (Some list) (sources_from input files)
@@ -165,74 +161,74 @@ given_of (Select rule tells) input files = given_listed input files
 given_of (SelectPairs pairing) input files = given_listed input files
 given_of task input files = given None (sources_from input files)
 
--- where there are files, the given input is as it was
+-- if there are files, the given input is unchanged
 abbrev pub KeepsInput : List Seen → Seen → Seen → Type 0
 KeepsInput [] old new = ⊤
 KeepsInput (file ∷ files) old new = new ≡ old
 
--- a histogram, where that is the report, can be written
+-- a histogram, if that is the report, can be written
 abbrev pub HasWritableReport : Task → Type 0
 HasWritableReport (Report report) = IsWritable report
 HasWritableReport task = ⊤
 
--- a task has files: a list where it is to have one, a table for a selection, at most one source where it is about a
--- table, two tables for their sum, and a table and two sources for pairs
+-- the task has its files: a count with a list has the list, a selection has its table, a report on a table has at most
+-- one source, and a selection of pairs has a table and two sources
 abbrev pub HasFilesFor : {X : Type 0} → Task → List X → Type 0
 HasFilesFor (Count settings) files = ⊤
 HasFilesFor (CountListed settings) files = 1 ≤ length files
 HasFilesFor (Report report) files = length files ≤ 1
 HasFilesFor (Query words) files = length files ≤ 1
-HasFilesFor Merge files = length files ≡ 2
+HasFilesFor (Combine combining) files = ⊤
 HasFilesFor (Select rule tells) files = 1 ≤ length files
 HasFilesFor (SelectPairs pairing) files = length files ≡ 3
 
--- the tally that a task is about, and its origin where that is told: of the reads that were given, of the table that
--- its source told, or of the two that were told together
+-- the tally of a task, and its origin if that is known: of the reads that were given, or of the table that its source
+-- gave
 abbrev pub IsTallyFor : Given → Given → Task → TableSeen → Type 0
 IsTallyFor old new (Count settings) table = Counts old new settings table
 IsTallyFor old new (CountListed settings) table = Counts old new settings table
 IsTallyFor old new (Report report) table = TellOneTable old.sources new.sources table
 IsTallyFor old new (Query words) table = TellOneTable old.sources new.sources table
-IsTallyFor old new Merge table = TellSum old.sources new.sources table
+IsTallyFor old new (Combine combining) table = ⊥
 IsTallyFor old new (Select rule tells) table = ⊥
 IsTallyFor old new (SelectPairs pairing) table = ⊥
 
--- why there is no tally for a task; of want of memory outside the readers of reads nothing is said
+-- why there is no tally for a task
 abbrev pub HasNoTallyFor : Given → Given → Task → ToolFault → Type 0
 HasNoTallyFor old new (Count settings) fault = RefusesCount old new settings fault
 HasNoTallyFor old new (CountListed settings) fault = RefusesCount old new settings fault
 HasNoTallyFor old new (Report report) fault = TellNoTable old.sources new.sources fault
 HasNoTallyFor old new (Query words) fault = TellNoTable old.sources new.sources fault
-HasNoTallyFor old new Merge fault = TellNoSum old.sources new.sources fault
+HasNoTallyFor old new (Combine combining) fault = ⊥
 HasNoTallyFor old new (Select rule tells) fault = ⊥
 HasNoTallyFor old new (SelectPairs pairing) fault = ⊥
 
--- the text is what a task writes about a tally
+-- the text that a task writes for a tally
 abbrev pub IsAnswer : Task → TableSeen → List ℕ → Type 0
 IsAnswer (Count settings) table text = text ≡ report_text (report_of settings) table
 IsAnswer (CountListed settings) table text = text ≡ report_text (report_of settings) table
 IsAnswer (Report report) table text = text ≡ report_text report table
 IsAnswer (Query words) table text = All (IsAskable table.0.k) (map string_bytes words.items)
     × (text ≡ query_text table.0 (map string_bytes words.items))
-IsAnswer Merge table text = text ≡ table_text table.0 table.1
+IsAnswer (Combine combining) table text = ⊥
 IsAnswer (Select rule tells) table text = ⊥
 IsAnswer (SelectPairs pairing) table text = ⊥
 
--- why a task has no answer about a tally; of want of memory for a report nothing is said
+-- why a task writes nothing for a tally: a query has a bad word; any other task lacked memory, under no further
+-- condition
 abbrev pub HasNoAnswer : Task → TableSeen → ToolFault → Type 0
 HasNoAnswer (Query words) table (BadWord number) = IsFirstBadWord table.0.k (map string_bytes words.items) number
 HasNoAnswer (Query words) table fault = ⊥
 HasNoAnswer task table Memory = ⊤
 HasNoAnswer task table fault = ⊥
 
--- what there is to say of a task that was done about a tally: how much was counted, or added
+-- what there is to report of a task that was done with a tally: how much was counted
 abbrev pub told_about : Task → TableSeen → Told
 told_about (Count settings) table = says.Counted (counted_of table)
 told_about (CountListed settings) table = says.Counted (counted_of table)
-told_about Merge table = says.Counted (counted_with None table.0)
 told_about task table = says.Nothing
 
--- what a task does about a tally: its answer was written; or a beginning of it, where writing failed; or nothing
+-- what a task does with a tally: its text was written; or a beginning of it, if writing failed; or nothing
 abbrev pub Answers : Task → TableSeen → Written → Written → Result Told ToolFault → Type 0
 Answers task table old new (Ok told) =
     (text : List ℕ) × IsAnswer task table text × HasWritten old new text × (told ≡ told_about task table)
@@ -244,7 +240,7 @@ pub record Stage : Type 0 where
   pub given : Given
   pub output : Written
 
--- with these files, and with the given input where no source is a file
+-- with these files, and with the given input if no source is a file
 abbrev pub stage_before : Task → Seen → List FileRead → Written → Stage
 stage_before task input files output =
     record { given = given_of task input (map (λ file. file.before) files); output = output }
@@ -253,28 +249,28 @@ abbrev pub stage_after : Task → Seen → List FileRead → Written → Stage
 stage_after task input files output =
     record { given = given_of task input (map (λ file. file.after) files); output = output }
 
--- the text is what the task writes, from what it was given, and this is said of it
+-- the text that the task writes from what it was given, and what there is to report of it
 abbrev pub IsTextFor : Given → Given → Task → List ℕ → Told → Type 0
 IsTextFor old new task text told = (table : TableSeen) × IsTallyFor old new task table × IsAnswer task table text
     × (told ≡ told_about task table)
 
--- why the task writes nothing, with what it was given: that has no tally, or the task has no answer about its tally
+-- why the task writes nothing: what it was given has no tally, or the task has no text for its tally
 abbrev pub HasFaultFor : Given → Given → Task → ToolFault → Type 0
 HasFaultFor old new task fault = HasNoTallyFor old new task fault
     ⊎ ((table : TableSeen) × IsTallyFor old new task table × HasNoAnswer task table fault)
 
--- what there is to say of a count
+-- what there is to report of a count
 abbrev pub told_of_count : Result CountedWords ToolFault → Result Told ToolFault
 told_of_count (Ok words) = Ok (says.Counted words)
 told_of_count (Err fault) = Err fault
 
--- what there is to say of a selection: what was counted of its reads, and whether that is asked for
+-- what there is to report of a selection: the numbers of its reads, and whether they are asked for
 abbrev pub told_of : SelectionRule → Bool → Result SelectionCounts ToolFault → Result Told ToolFault
 told_of rule tells (Ok counts) = Ok (if rule.profiled then says.Profiled counts else says.Selected counts tells)
 told_of rule tells (Err fault) = Err fault
 
--- what a selection does: the source of its table told one, and by it the reads of the sources were selected; or it told
--- none, and nothing was read or written
+-- the effect of a selection: the source of its table gave one, and by it the reads of the sources were selected; or it
+-- gave none, and nothing was read or written
 abbrev pub SelectsBy : SelectionRule → Bool → Stage → Stage → Result Told ToolFault → Type 0
 SelectsBy rule tells old new outcome =
     ((table : TableSeen) × TellsTableOf old.given.list new.given.list table
@@ -283,8 +279,8 @@ SelectsBy rule tells old new outcome =
     ⊎ ((fault : ToolFault) × (outcome ≡ Err fault) × TellsNoTableOf old.given.list new.given.list fault
     × (new.given.sources ≡ old.given.sources) × (new.output ≡ old.output))
 
--- what a selection of pairs does: the source of its table told one, and by it the pairs of two sources were selected
--- so; or it told none, and nothing else was read, and what is written to is `Kept`
+-- the effect of a selection of pairs: the source of its table gave one, and by it the pairs of two sources were
+-- selected as `Selects`; or it gave none, nothing else was read, and `Kept` holds for the output
 abbrev pub SelectsPairsBy : Selecting → Type 0 → Pairing → Given → Given → Result SelectionCounts ToolFault → Type 0
 SelectsPairsBy Selects Kept pairing old new outcome =
     ((table : TableSeen) × TellsTableOf old.list new.list table
@@ -293,12 +289,12 @@ SelectsPairsBy Selects Kept pairing old new outcome =
     ⊎ ((fault : ToolFault) × (outcome ≡ Err fault) × TellsNoTableOf old.list new.list fault
     × (new.sources ≡ old.sources) × Kept)
 
--- so it does, and this is said of it
+-- the same, with what there is to report of it
 abbrev pub TellsOfPairs : Pairing → (Result SelectionCounts ToolFault → Type 0) → Result Told ToolFault → Type 0
 TellsOfPairs pairing Selects outcome = (selected : Result SelectionCounts ToolFault) × Selects selected
     × (outcome ≡ told_of pairing.selection pairing.tells selected)
 
--- the reads of each pair were written one behind the other
+-- both reads of each pair were written to one output, one after the other
 abbrev pub SelectsPairsInto : Pairing → Stage → Stage → Result Told ToolFault → Type 0
 SelectsPairsInto pairing old new outcome = TellsOfPairs pairing (λ selected. SelectsPairsBy
     (λ task before after answer. SelectsInterleaved task before after old.output new.output answer)
@@ -311,12 +307,12 @@ DoesApart (SelectPairs pairing) old new from to outcome = TellsOfPairs pairing (
     outcome
 DoesApart task old new from to outcome = ⊥
 
--- a task that writes to two outputs where two are named
+-- a task that writes to two outputs if two are named
 abbrev pub WritesTwo : Task → Type 0
 WritesTwo (SelectPairs pairing) = ⊤
 WritesTwo task = ⊥
 
--- what a task does about a tally: its text was written; or a beginning of it, where writing failed; or nothing
+-- the effect of a task with a tally: its text was written; or a beginning of it, if writing failed; or nothing
 abbrev pub DoesByTally : Task → Stage → Stage → Result Told ToolFault → Type 0
 DoesByTally task old new (Ok told) =
     (text : List ℕ) × IsTextFor old.given new.given task text told × HasWritten old.output new.output text
@@ -324,15 +320,17 @@ DoesByTally task old new (Err Write) = (text : List ℕ) × (told : Told)
     × IsTextFor old.given new.given task text told × HasBegun old.output new.output text
 DoesByTally task old new (Err fault) = (new.output ≡ old.output) × HasFaultFor old.given new.given task fault
 
--- a task that takes its sources one after the other
+-- a task that takes its sources one after another
 abbrev pub TakesSources : Task → Type 0
 TakesSources (SelectPairs pairing) = ⊥
 TakesSources task = ⊤
 
--- what a task does, and what there is to say of it
+-- the effect of a task, and what there is to report of it
 abbrev pub Does : Task → Stage → Stage → Result Told ToolFault → Type 0
 Does (Select rule tells) old new outcome = SelectsBy rule tells old new outcome
 Does (SelectPairs pairing) old new outcome = SelectsPairsInto pairing old new outcome
+Does (Combine combining) old new outcome =
+    Combines combining old.given.sources new.given.sources old.output new.output outcome
 Does task old new outcome = DoesByTally task old new outcome
 
 -- the name of a command
@@ -343,10 +341,13 @@ name_of verb.Histo = codes "histo"
 name_of verb.Stats = codes "stats"
 name_of verb.Query = codes "query"
 name_of verb.Merge = codes "merge"
+name_of verb.Intersect = codes "intersect"
+name_of verb.Subtract = codes "subtract"
+name_of verb.Filter = codes "filter"
 name_of verb.Select = codes "select"
 name_of verb.Profile = codes "profile"
 
--- the command of a name
+-- the command with this name
 abbrev pub verb_named : Text → Option Verb
 verb_named name = if bytes_eq name (name_of verb.Count) then Some verb.Count
     else if bytes_eq name (name_of verb.Dump) then Some verb.Dump
@@ -354,6 +355,9 @@ verb_named name = if bytes_eq name (name_of verb.Count) then Some verb.Count
     else if bytes_eq name (name_of verb.Stats) then Some verb.Stats
     else if bytes_eq name (name_of verb.Query) then Some verb.Query
     else if bytes_eq name (name_of verb.Merge) then Some verb.Merge
+    else if bytes_eq name (name_of verb.Intersect) then Some verb.Intersect
+    else if bytes_eq name (name_of verb.Subtract) then Some verb.Subtract
+    else if bytes_eq name (name_of verb.Filter) then Some verb.Filter
     else if bytes_eq name (name_of verb.Select) then Some verb.Select
     else if bytes_eq name (name_of verb.Profile) then Some verb.Profile
     else None
@@ -367,7 +371,10 @@ AsksForTask verb.Dump rows (Report report) = (report.print ≡ print.Dump) × As
 AsksForTask verb.Histo rows (Report report) = (report.print ≡ print.Histo) × (high_of rows ≡ Some report.high)
 AsksForTask verb.Stats rows (Report report) = report.print ≡ print.Stats
 AsksForTask verb.Query rows (Query words) = map string_bytes words.items ≡ words_asked rows
-AsksForTask verb.Merge rows Merge = ⊤
+AsksForTask verb.Merge rows (Combine asked) = asked ≡ combination.Merge
+AsksForTask verb.Intersect rows (Combine asked) = AsksForIntersection rows asked
+AsksForTask verb.Subtract rows (Combine asked) = AsksForSubtraction rows asked
+AsksForTask verb.Filter rows (Combine asked) = AsksForFilter rows asked
 AsksForTask verb.Select rows (Select rule tells) =
     AsksForSelection rows rule × IsFlag rows (codes "stats") tells × AsksForPairs rows None
 AsksForTask verb.Select rows (SelectPairs pairing) = AsksForSelection rows pairing.selection
@@ -375,57 +382,66 @@ AsksForTask verb.Select rows (SelectPairs pairing) = AsksForSelection rows pairi
 AsksForTask verb.Profile rows (Select rule tells) = AsksForProfile rows rule × (tells ≡ false)
 AsksForTask verb rows task = ⊥
 
--- the first option of a command whose value is outside its limits
+-- the first option of a command with a value outside its limits
 abbrev pub first_refused : Verb → List Row → Option OptionName
 first_refused verb.Count rows = first_bad rows
 first_refused verb.Dump rows = first_bad_of_dump rows
 first_refused verb.Histo rows = first_bad_of_histo rows
+first_refused verb.Intersect rows = first_bad_of_intersect rows
+first_refused verb.Filter rows = first_bad_of_dump rows
 first_refused verb.Select rows = first_bad_of_select rows
 first_refused verb.Profile rows = first_bad_of_profile rows
 first_refused verb rows = None
 
--- the options of a command go together
+-- the arguments of a command don't conflict: the options of a selection fit together, and there are at most 64 tables
 abbrev pub GoTogether : Verb → List Row → Type 0
 GoTogether verb.Select rows = pairs_refusal rows ≡ None
+GoTogether verb.Merge rows = has_too_many_tables rows ≡ false
+GoTogether verb.Intersect rows = has_too_many_tables rows ≡ false
+GoTogether verb.Subtract rows = has_too_many_tables rows ≡ false
 GoTogether command rows = ⊤
 
--- they don't, for this reason
-abbrev pub AreNotTogether : Verb → List Row → PairsRefusal → Type 0
-AreNotTogether verb.Select rows why = pairs_refusal rows ≡ Some why
+-- they conflict, for this reason
+abbrev pub AreNotTogether : Verb → List Row → Conflict → Type 0
+AreNotTogether verb.Select rows (Pairs why) = pairs_refusal rows ≡ Some why
+AreNotTogether verb.Merge rows TooManyTables = has_too_many_tables rows ≡ true
+AreNotTogether verb.Intersect rows TooManyTables = has_too_many_tables rows ≡ true
+AreNotTogether verb.Subtract rows TooManyTables = has_too_many_tables rows ≡ true
 AreNotTogether command rows why = ⊥
 
--- the list of a count in front of its files, where one is named
+-- the list of a count before its files, if one is named
 abbrev pub behind_list : Option Text → List Text → List Text
 behind_list None names = names
 behind_list (Some list) names = list ∷ names
 
--- the table of a selection in front of its files; one that is missing, which `clap` lets none, has an empty name
+-- the table of a selection before its files; `clap` allows no missing table, which would have an empty name
 abbrev pub behind_table : List Row → List Text
 behind_table rows = unwrap_or (first_of (codes "table") rows) [] ∷ files_named rows
 
--- the files that a command reads, in order: a count its list and all that are named, a selection and a profile their
--- table and all that are named, a sum its two tables, any other the first that is named. A table that a sum lacks,
--- which `clap` lets none, has an empty name
+-- the files that a command reads, in order: for a count, its list and all files; for a selection and a profile, their
+-- table and all files; for a sum, an intersection and a difference, all tables; for any other, the first file
 abbrev pub files_of : Verb → List Row → List Text
 files_of verb.Count rows = behind_list (only_of rows) (files_named rows)
 files_of verb.Select rows = behind_table rows
 files_of verb.Profile rows = behind_table rows
-files_of verb.Merge rows = unwrap_or (first_table_of rows) [] ∷ unwrap_or (second_table_of rows) [] ∷ []
+files_of verb.Merge rows = tables_of rows
+files_of verb.Intersect rows = tables_of rows
+files_of verb.Subtract rows = tables_of rows
 files_of verb rows = take 1 (files_named rows)
 
--- the second output of a command, which a selection alone can have
+-- the second output of a command; only a selection can have one
 abbrev pub second_of : Verb → List Row → Option Text
 second_of verb.Select rows = output2_of rows
 second_of command rows = None
 
--- what a command has: the given input, the given output, and what was asked of the files so far
+-- the surroundings of a command: the given input, the given output, and what was requested of files so far
 pub record Surroundings : Type 0 where
   pub input : Seen
   pub output : Written
   pub asked : List FileEvent
 
--- a task is done with these files, and its text goes to the file of this name. The file that it is written to is opened
--- before anything is read, and it is closed when the sources are
+-- a task is done with these files, and its text goes to the file with this name. The file that takes it is opened
+-- before anything is read, and closed after the sources
 pub record WritesTo (name : Text) (task : Task) (input input_after : Seen) (files : List FileRead)
     (asked : List FileEvent) (outcome : Result Told ToolFault) : Type 0 where
   pub file : FileWritten
@@ -439,7 +455,7 @@ pub record WritesTo (name : Text) (task : Task) (input input_after : Seen) (file
   pub closed : ClosesOutput file.name path file.after.history work outcome closing
   pub log : asked ≡ opening ++ returned files ++ closing
 
--- a task is done with sources that were opened, and its text goes to the file of this name
+-- a task is done with sources that were opened, and its text goes to the file with this name
 pub record DoesTaskInto (name : Text) (sources : List (NamedSource Seen)) (task : Task) (input input_after : Seen)
     (asked asked_after : List FileEvent) (outcome : Result Told ToolFault) : Type 0 where
   pub files : List FileRead
@@ -449,8 +465,8 @@ pub record DoesTaskInto (name : Text) (sources : List (NamedSource Seen)) (task 
   pub writes : WritesTo name task input input_after files there outcome
   pub log : asked_after ≡ asked ++ there
 
--- a task that writes to two outputs is done with these files, and its texts go to the files of these names. Both files
--- that are written to are opened before anything is read, and both are closed when the sources are
+-- a task that writes to two outputs is done with these files, and its texts go to the files with these names. Both
+-- files that take them are opened before anything is read, and both are closed after the sources
 pub record WritesApart (name other : Text) (task : Task) (input input_after : Seen) (files : List FileRead)
     (asked : List FileEvent) (outcome : Result Told ToolFault) : Type 0 where
   pub first : FileWritten
@@ -470,7 +486,7 @@ pub record WritesApart (name other : Text) (task : Task) (input input_after : Se
       (target second.name second_path second.after.history)) work outcome closing
   pub log : asked ≡ opening ++ returned files ++ closing
 
--- it is done with sources that were opened
+-- the same with sources that were opened
 pub record DoesTaskApart (name other : Text) (sources : List (NamedSource Seen)) (task : Task)
     (input input_after : Seen) (asked asked_after : List FileEvent) (outcome : Result Told ToolFault) : Type 0 where
   pub files : List FileRead
@@ -480,7 +496,8 @@ pub record DoesTaskApart (name other : Text) (sources : List (NamedSource Seen))
   pub writes : WritesApart name other task input input_after files there outcome
   pub log : asked_after ≡ asked ++ there
 
--- there is no file for a text, or there are none for two, and why is told; the sources are given back as they were
+-- there is no file for a text, or no two for two texts, and the reason is returned; the sources are given back
+-- unchanged
 pub record LacksOutput (Lacks : List FileEvent → ToolFault → Type 0) (sources : List (NamedSource Seen))
     (input input_after : Seen) (asked asked_after : List FileEvent) (outcome : Result Told ToolFault) : Type 0 where
   pub fault : ToolFault
@@ -490,14 +507,14 @@ pub record LacksOutput (Lacks : List FileEvent → ToolFault → Type 0) (source
   pub why : Lacks tried fault
   pub log : asked_after ≡ asked ++ tried ++ given_back sources
 
--- its texts go to files, so, and the given output is as it was
+-- the texts go to files, as `Writes`, and the given output is unchanged
 abbrev pub IntoFiles : Surroundings → Surroundings → List FileRead → (List FileEvent → Type 0) → Type 0
 IntoFiles old new files Writes = (new.output ≡ old.output)
     × ((there : List FileEvent) × (new.asked ≡ old.asked ++ openings files ++ there) × Writes there)
 
--- a task is done with these files, which were opened for it, or with the given input where there are none. It writes to
--- the given output; or, where a file is named for the output, its text goes to that, and where a second one is, its two
--- texts go to both. That is all that is asked of files
+-- a task is done with these files, which were opened for it, or with the given input if there are none. It writes to
+-- the given output; or to a file, if one is named for the output; or its two texts to two files, if two are named.
+-- Nothing else is requested of files
 abbrev pub DoesWith : Option Text → Option Text → Task → Surroundings → Surroundings → List FileRead
     → Result Told ToolFault → Type 0
 DoesWith None second task old new files outcome = (new.asked ≡ old.asked ++ openings files ++ returned files)
@@ -507,7 +524,7 @@ DoesWith (Some name) None task old new files outcome = IntoFiles old new files
 DoesWith (Some name) (Some other) task old new files outcome = IntoFiles old new files
     (λ there. WritesApart name other task old.input new.input files there outcome)
 
--- a command comes to its task, with its files, and this is the outcome
+-- a command reaches its task, with its files, and this is the outcome
 pub record ComesToTask (command : Verb) (rows : List Row) (old new : Surroundings)
     (outcome : Result Told ToolFault) : Type 0 where
   pub task : Task
@@ -517,24 +534,24 @@ pub record ComesToTask (command : Verb) (rows : List Row) (old new : Surrounding
   pub input : KeepsInput (sources_in task (map (λ file. file.before) files)) old.input new.input
   pub done : DoesWith (output_of rows) (second_of command rows) task old new files outcome
 
--- there is no file for the text that is to go to the second output, which has this name
+-- there is no file for the text of the second output, which has this name
 abbrev pub LacksSecondFile : Verb → List Row → Text → List FileEvent → Type 0
 LacksSecondFile command rows name asked = (second_of command rows ≡ Some name)
     × LacksSecond (files_of command rows) (output_of rows) (λ none. OpensNoOutput name none) asked
 
--- memory was refused while a file for it was sought
+-- memory was refused while a file for it was looked for
 abbrev pub LacksSecondRoom : Verb → List Row → List FileEvent → Type 0
 LacksSecondRoom command rows asked = (name : Text) × (second_of command rows ≡ Some name)
     × LacksSecond (files_of command rows) (output_of rows) (λ none. LacksRoomForOutput name none) asked
 
--- an option is refused, or there was no memory for what the options say
+-- an option is refused, or there was no memory for the values of the options
 abbrev pub IsRefusedOption : Verb → List Row → ToolFault → Type 0
 IsRefusedOption command rows (BadOption name) = first_refused command rows ≡ Some name
 IsRefusedOption command rows Memory = ⊤
 IsRefusedOption command rows fault = ⊥
 
--- why a command does not come to its task, and what it asked of files: an option is refused, before all; or a file
--- can't be opened or created; or there was no memory, which may show in any of these places
+-- why a command does not reach its task, and what it requested of files: an option is refused, before everything else;
+-- or a file can't be opened or created; or there was no memory, which may happen in any of these places
 abbrev pub IsRefused : Verb → List Row → List FileEvent → ToolFault → Type 0
 IsRefused command rows asked (BadOption name) = (first_refused command rows ≡ Some name) × (asked ≡ [])
 IsRefused command rows asked (OpenFailed name) = (first_refused command rows ≡ None)
@@ -547,7 +564,7 @@ IsRefused command rows asked Memory = (asked ≡ [])
     ⊎ LacksSecondRoom command rows asked
 IsRefused command rows asked fault = ⊥
 
--- a command does not come to its task: nothing was read, and nothing written
+-- a command does not reach its task: nothing was read, and nothing written
 pub record IsLeft (command : Verb) (rows : List Row) (old new : Surroundings)
     (outcome : Result Told ToolFault) : Type 0 where
   pub fault : ToolFault
@@ -558,7 +575,7 @@ pub record IsLeft (command : Verb) (rows : List Row) (old new : Surroundings)
   pub log : new.asked ≡ old.asked ++ asked
   pub refused : IsRefused command rows asked fault
 
--- what a command does
+-- the effect of a command
 abbrev pub EndsSo : Verb → List Row → Surroundings → Surroundings → Result Told ToolFault → Type 0
 EndsSo command rows old new outcome =
     ComesToTask command rows old new outcome ⊎ IsLeft command rows old new outcome

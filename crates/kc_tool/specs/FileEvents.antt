@@ -1,4 +1,4 @@
--- What is asked of the files of a command line, in order: this project's own.
+-- The requests to the files of a command line, in order: this project's own.
 use Rattle.std.specs.Prelude.{[], Option, Some, None}
 use Rattle.std.specs.declared.fs.permissions.Permissions.{Permissions}
 use Rattle.clap.specs.Words.{Text}
@@ -8,8 +8,8 @@ use Rattle.kc_tool.specs.declared.file_acts.FileAct.TheVariants as act
 use Rattle.kc_tool.specs.declared.files.NotMade.{NotMade}
 use Rattle.kc_tool.specs.declared.files.NotMade.TheVariants as why
 
--- one thing that was asked of the files: what it was and what came of it, the name of the file, the other path where it
--- is about two, and what the file had given or taken when it was closed
+-- one request to the files: what it was and what came of it, the name of the file, the other path if there are two, and
+-- what the file had given or taken when it was closed
 pub record FileEvent : Type 0 where
   pub act : FileAct
   pub name : Text
@@ -19,18 +19,18 @@ pub record FileEvent : Type 0 where
 abbrev pub event : FileAct → Text → Text → History → FileEvent
 event what name other history = record { act = what; name = name; other = other; history = history }
 
--- something was asked of the file of this name alone, which moved no bytes
+-- a request to the file with this name alone, which moved no bytes
 abbrev pub event_of : FileAct → Text → FileEvent
 event_of what name = event what name [] no_history
 
--- the file of this name was opened to be read, or could not be
+-- the file with this name was opened for reading, or could not be
 abbrev pub opened : Text → FileEvent
 opened name = event_of act.Opened name
 
 abbrev pub not_opened : Text → FileEvent
 not_opened name = event_of act.NotOpened name
 
--- a regular file of this name was opened to be written, or made; or a device was; or none could be
+-- a regular file with this name was opened for writing, or made; or a device was opened; or none could be
 abbrev pub created : Text → FileEvent
 created name = event_of act.Created name
 
@@ -51,7 +51,7 @@ followed name path = event act.Followed name path no_history
 abbrev pub not_followed : Text → FileEvent
 not_followed name = event_of act.NotFollowed name
 
--- a new file of this name was made, or was not, for this reason
+-- a new file with this name was made, or was not, for this reason
 abbrev pub made : Text → FileEvent
 made name = event_of act.Made name
 
@@ -59,21 +59,21 @@ abbrev pub not_made : NotMade → Text → FileEvent
 not_made why.Taken name = event_of act.Taken name
 not_made why.Refused name = event_of act.NotMade name
 
--- the file of this name was closed, when it had given this, or taken this
+-- the file with this name was closed, after it had given this, or taken this
 abbrev pub read : Text → History → FileEvent
 read name history = event act.Read name [] history
 
 abbrev pub wrote : Text → History → FileEvent
 wrote name history = event act.Wrote name [] history
 
--- the file of this name was renamed to that path, or could not be
+-- the file with this name was renamed to that path, or could not be
 abbrev pub renamed : Text → Text → FileEvent
 renamed name path = event act.Renamed name path no_history
 
 abbrev pub not_renamed : Text → Text → FileEvent
 not_renamed name path = event act.NotRenamed name path no_history
 
--- the file of this name was removed, or could not be
+-- the file with this name was removed, or could not be
 abbrev pub removed : Text → FileEvent
 removed name = event_of act.Removed name
 

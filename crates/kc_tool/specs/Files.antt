@@ -1,4 +1,4 @@
--- The files that a command line names: source, the README ("The commands").
+-- The files that a command line names: source, our manual page.
 use Rattle.std.specs.Prelude.{◌≡◌, ◌⊎◌, List, [], ◌∷◌, ◌++◌, map, All, Option, Some, codes, string_bytes}
 use Rattle.std.specs.Prelude.{unwrap_or, ⊤}
 use Rattle.clap.specs.Words.{Row, Text, all_of, first_of}
@@ -12,15 +12,15 @@ use Rattle.kc_tool.specs.declared.named_sources.NamedSource.{NamedSource}
 use Rattle.kc_tool.specs.declared.tool_faults.ToolFault.{ToolFault}
 use Rattle.kc_tool.specs.declared.tool_faults.ToolFault.TheVariants.{Memory, OpenFailed}
 
--- the files that are named behind a command, in order
+-- the files that are named after a command, in order
 abbrev pub files_named : List Row → List Text
 files_named rows = unwrap_or (all_of (codes "file") rows) []
 
--- the file that is written, where `--output` names one
+-- the file that is written, if `--output` names one
 abbrev pub output_of : List Row → Option Text
 output_of rows = first_of (codes "output") rows
 
--- the file of the second reads of pairs, where `--output2` names one
+-- the file of the second reads of pairs, if `--output2` names one
 abbrev pub output2_of : List Row → Option Text
 output2_of rows = first_of (codes "output2") rows
 
@@ -28,25 +28,25 @@ output2_of rows = first_of (codes "output2") rows
 abbrev pub words_asked : List Row → List Text
 words_asked rows = unwrap_or (all_of (codes "word") rows) []
 
--- a file that a command reads: what is seen of it when it is opened, and when it is given back
+-- a file that a command reads: its view when it is opened, and when it is given back
 pub record FileRead : Type 0 where
   pub name : Text
   pub before : Seen
   pub after : Seen
 
--- a file that a command writes: what is seen of it when it is opened, and when it is closed
+-- a file that a command writes: its view when it is opened, and when it is closed
 pub record FileWritten : Type 0 where
   pub name : Text
   pub before : Written
   pub after : Written
 
--- these files were opened under these names, in order, and nothing was asked of them before
+-- these files were opened under these names, in order, and not used before
 pub record AreOpened (names : List Text) (files : List FileRead) : Type 0 where
   pub named : map (λ file. file.name) files ≡ names
   pub fresh : All (λ seen. seen.history ≡ no_history) (map (λ file. file.before) files)
 
--- what is asked of the files that a command reads: all are opened, in order, and at the end each is closed, as it is
--- then
+-- the requests to the files that a command reads: all are opened, in order, and at the end each is closed, with its
+-- history
 abbrev pub openings : List FileRead → List FileEvent
 openings files = map opened (map (λ file. file.name) files)
 
@@ -62,12 +62,12 @@ pub record AreOf (sources : List (NamedSource Seen)) (files : List FileRead) : T
 abbrev pub given_back : List (NamedSource Seen) → List FileEvent
 given_back sources = map (λ source. read source.name.now source.source.history) sources
 
--- the files of these names are given back, and nothing was asked of them
+-- the files with these names are given back, unused
 abbrev pub unread : List Text → List FileEvent
 unread names = map (λ name. read name no_history) names
 
--- the files before this name were opened, in order, that of this name couldn't be, and those that were opened are given
--- back unread
+-- the files before this name were opened, in order, the one with this name couldn't be, and those that were opened are
+-- given back unread
 pub record OpensNotAll (names : List Text) (name : Text) (asked : List FileEvent) : Type 0 where
   pub before : List Text
   pub behind : List Text
@@ -78,49 +78,49 @@ pub record OpensNotAll (names : List Text) (name : Text) (asked : List FileEvent
 abbrev pub tried_alone : List Text → List FileEvent → List FileEvent
 tried_alone names tried = map opened names ++ tried ++ unread names
 
--- a file that is to be read could not be opened, or there is no file for the text that is to go to this one
+-- a file couldn't be opened for reading, or there is no file for the text that should go to this one
 abbrev pub LacksFile : List Text → Option Text → Text → List FileEvent → Type 0
 LacksFile names output name asked = OpensNotAll names name asked ⊎ ((output ≡ Some name)
     × ((tried : List FileEvent) × OpensNoOutput name tried × (asked ≡ tried_alone names tried)))
 
--- memory was refused while the file for a text was sought
+-- memory was refused while the file for a text was looked for
 abbrev pub LacksRoom : List Text → Option Text → List FileEvent → Type 0
 LacksRoom names output asked = (name : Text) × (output ≡ Some name)
     × ((tried : List FileEvent) × LacksRoomForOutput name tried × (asked ≡ tried_alone names tried))
 
--- there is a file for the text that is to go to the first output, and none, so, for that which is to go to the second
+-- there is a file for the text of the first output, and none, by `OpensNone`, for that of the second
 abbrev pub LacksSecond : List Text → Option Text → (List FileEvent → Type 0) → List FileEvent → Type 0
 LacksSecond names output OpensNone asked = (first : Text) × (output ≡ Some first)
     × ((tried : List FileEvent) × OpensNoSecond first OpensNone tried × (asked ≡ tried_alone names tried))
 
--- how it is told that a file of this name is not opened or created; or memory was refused for the telling
+-- how the fault names the file that is not opened or created; or memory was refused for the name
 abbrev pub TellsName : Text → ToolFault → Type 0
 TellsName name (OpenFailed told) = string_bytes told ≡ name
 TellsName name Memory = ⊤
 TellsName name _ = ⊥
 
--- why there is no new file beside this path, for a text that is to go to the file of this name
+-- why there is no new file beside this path, for a text that should go to the file with this name
 abbrev pub FailsBeside : Text → Text → List FileEvent → ToolFault → Type 0
 FailsBeside name path asked fault = (TellsName name fault × MakesNoneBeside path asked)
     ⊎ ((fault ≡ Memory) × StopsBeside path asked)
 
--- why there is no file for a text that is to go to this one, and what was tried before that was told
+-- why there is no file for a text that should go to this one, and what was tried before
 abbrev pub HasNoOutput : Text → List FileEvent → ToolFault → Type 0
 HasNoOutput name tried fault = (TellsName name fault × OpensNoOutput name tried)
     ⊎ ((fault ≡ Memory) × LacksRoomForOutput name tried)
 
--- why there are no files for two texts that are to go to these, and what was tried before that was told
+-- why there are no files for two texts that should go to these, and what was tried before
 abbrev pub HasNotBoth : Text → Text → List FileEvent → ToolFault → Type 0
 HasNotBoth first second tried fault =
     HasNoOutput first tried fault ⊎ OpensNoSecond first (λ none. HasNoOutput second none fault) tried
 
--- all files were opened, in order: these are their sources, of which nothing was asked yet
+-- all files were opened, in order: these are their sources, which are not used yet
 pub record OpensAll (names : List Text) (old new : List FileEvent) (sources : List (NamedSource Seen)) : Type 0 where
   pub named : names_of sources ≡ names
   pub fresh : All (λ seen. seen.history ≡ no_history) (seen_of (λ source. source) sources)
   pub log : new ≡ old ++ map opened names
 
--- not all were opened: one couldn't be, which is told; or memory was refused before anything was asked
+-- not all were opened: one couldn't be, and is reported; or memory was refused before any request
 abbrev pub FailsToOpen : List Text → List FileEvent → List FileEvent → ToolFault → Type 0
 FailsToOpen names old new fault =
     ((name : Text) × (asked : List FileEvent)

@@ -6,19 +6,19 @@ use Rattle.kc_tool.specs.NamedSources.{names_of, seen_of}
 use Rattle.kc_tool.specs.Tallies.{Given}
 use Rattle.kc_tool.specs.declared.given_sources.GivenSources.{GivenSources}
 
--- what is seen of the files of a task, in order
+-- the views of a task's files, in order
 abbrev pub files_in : {R F : Type 0} → (F → Seen) → GivenSources R F → List Seen
 files_in seen given = seen_of seen given.files.now
 
--- what is seen of its sources, in order: the files behind its own, or the input where there are none
+-- the views of its sources, in order: the files after its own, or the input if there are none
 abbrev pub seen_in : {R F : Type 0} → (R → Seen) → (F → Seen) → GivenSources R F → List Seen
 seen_in seen seen_file given = sources_from (seen given.input.now) (drop given.own (files_in seen_file given))
 
--- what is seen of its first file, which is its list or its table, and of its sources
+-- the view of its first file, which is its list or its table, and those of its sources
 abbrev pub listed_in : {R F : Type 0} → (R → Seen) → (F → Seen) → GivenSources R F → Given
 listed_in seen seen_file given = given_listed (seen given.input.now) (files_in seen_file given)
 
--- the same files with their names, and the same input, which is as it was where there are files for sources
+-- the same files with their names, and the same input, which is unchanged if there are files for sources
 pub record KeepsFiles {R F : Type 0} (seen : R → Seen) (seen_file : F → Seen)
     (old new : GivenSources R F) : Type 0 where
   pub files : new.files.ghost_name ≡ old.files.ghost_name
@@ -27,7 +27,7 @@ pub record KeepsFiles {R F : Type 0} (seen : R → Seen) (seen_file : F → Seen
   pub names : names_of new.files.now ≡ names_of old.files.now
   pub unread : KeepsInput (drop old.own (files_in seen_file old)) (seen old.input.now) (seen new.input.now)
 
--- so it is, and the files before the sources are as they were
+-- the same, and the files before the sources are unchanged
 pub record Keeps {R F : Type 0} (seen : R → Seen) (seen_file : F → Seen) (old new : GivenSources R F) : Type 0 where
   pub files : new.files.ghost_name ≡ old.files.ghost_name
   pub input : new.input.ghost_name ≡ old.input.ghost_name
@@ -36,7 +36,7 @@ pub record Keeps {R F : Type 0} (seen : R → Seen) (seen_file : F → Seen) (ol
   pub unread : KeepsInput (drop old.own (files_in seen_file old)) (seen old.input.now) (seen new.input.now)
   pub before : take old.own (files_in seen_file new) ≡ take old.own (files_in seen_file old)
 
--- so it is read at one index of a list of sources, and the others are as they were
+-- the source at one index of a list was read as `Reads`, and the others are unchanged
 pub record ReadsAt (i : ℕ) (old new : List Seen) (Reads : Seen → Seen → Type 0) : Type 0 where
   pub here : Seen
   pub later : Seen

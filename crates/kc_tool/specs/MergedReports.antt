@@ -1,5 +1,6 @@
--- What the reports of two counts say once they are merged: source, our formats page ("Merging").
+-- The reports of two counts, and their merged table: source, our formats page ("Merging").
 use Rattle.std.specs.Prelude.{◌≡◌, ℕ, List, [], ◌∷◌, ◌++◌, map, Some, None, Ok}
+use Rattle.kc_io.specs.Sinks.{Written, HasWritten}
 use Rattle.kc_io.specs.Sources.{Seen}
 use Rattle.kc_gzip.specs.Intakes.{TakesAll}
 use Rattle.kc_fastx.specs.Reads.{Read}
@@ -12,18 +13,18 @@ use Rattle.kc_command.specs.declared.settings.Print.TheVariants as print
 use Rattle.kc_command.specs.Settings.{Settings, rule_of}
 use Rattle.kc_tool.specs.Reports.{IsReportOf}
 use Rattle.kc_tool.specs.Tallies.{ReadsSources, TableSeen, given}
-use Rattle.kc_tool.specs.Commands.{IsTextFor, most_table_bytes}
-use Rattle.kc_tool.specs.declared.commands.Task.TheVariants.{Merge}
+use Rattle.kc_combine.specs.declared.combining.Combining.TheVariants as combination
+use Rattle.kc_tool.specs.Commands.{Combines, most_table_bytes}
 use Rattle.kc_tool.specs.declared.told.Told.{Told}
 
--- read as a table, the text says the tally of these reads under the rule, and that it was counted from so many, with
--- the floor of the rule and without a list
+-- read as a table, the text has the tally of these reads under the rule, and its origin: their number, the floor of the
+-- rule, and no list
 pub record TellsReads (rule : CountingRule) (reads : List Read) (text : List ℕ) : Type 0 where
   pub tally : TallySeen
   pub counted : IsTallyOf rule reads tally
   pub told : IsTableOf text (Ok (tally, counted_from rule reads))
 
--- both texts are read as tables, these are put together, and this is the text of what comes of them
+-- both texts are read as tables, these are added, and this is the table text of the sum
 pub record AreMerged (first second text : List ℕ) : Type 0 where
   pub table : TableSeen
   pub other : TableSeen
@@ -33,7 +34,7 @@ pub record AreMerged (first second text : List ℕ) : Type 0 where
   pub merges : Merges table.0 other.0 table.1 other.1 (Ok merged)
   pub is_text : text ≡ table_text merged.0 merged.1
 
--- the text is the report of a count without a list, of sources that tell these bytes
+-- the text is the report of a count without a list, of sources with these bytes
 pub record IsReportOn (settings : Settings) (inputs : List (List ℕ)) (text : List ℕ) : Type 0 where
   pub sources : List Seen
   pub tell : map (λ source. source.left) sources ≡ map (λ input. Some input) inputs
@@ -41,46 +42,47 @@ pub record IsReportOn (settings : Settings) (inputs : List (List ℕ)) (text : L
 
 -- ---- laws
 
--- where the report of a count without a list is a table, it tells the reads that the sources gave
+-- if the report of a count without a list is a table, it has the tally and the origin of the reads that the sources
+-- gave
 abbrev pub ReportTellsReads : Settings → Type 0
 ReportTellsReads settings = (sources : List Seen) (text : List ℕ) → settings.print ≡ print.Table
     → (report : IsReportOf (given None sources) settings text)
     → (reads : List Read) × ReadsSources sources report.later.sources reads × TellsReads (rule_of settings) reads text
 
--- two texts that tell reads under one rule match, whichever tables they are read as
+-- two texts of reads under one rule match, whichever tables they are read as
 abbrev pub ReportsMatch : Type 0
 ReportsMatch = (rule : CountingRule) (reads more : List Read) (first second : List ℕ) (table other : TableSeen)
     → TellsReads rule reads first → TellsReads rule more second
     → IsTableOf first (Ok table) → IsTableOf second (Ok other) → AreAlike table.0 other.0 table.1 other.1
 
--- two reports of counts without a list that are tables are never too large to be put together, whatever the sources
--- gave: no count takes more than 2 ^ 36 bytes
+-- two reports of counts without a list that are tables are never too large to be added, whatever the sources gave: no
+-- count takes more than 2 ^ 36 bytes
 abbrev pub ReportsFit : Settings → Type 0
 ReportsFit settings = (sources more : List Seen) (first second : List ℕ) (table other : TableSeen)
     → settings.print ≡ print.Table
     → IsReportOf (given None sources) settings first → IsReportOf (given None more) settings second
     → IsTableOf first (Ok table) → IsTableOf second (Ok other) → AreSmall table.0 other.0 table.1 other.1
 
--- merged, they tell the reads of the first and then those of the second
+-- the merged text is that of the reads of the first followed by those of the second
 abbrev pub MergedReports : Type 0
 MergedReports = (rule : CountingRule) (reads more : List Read) (first second text : List ℕ)
     → TellsReads rule reads first → TellsReads rule more second → AreMerged first second text
     → TellsReads rule (reads ++ more) text
 
--- one text alone tells these reads
+-- only one text has these reads
 abbrev pub OneReport : Type 0
 OneReport = (rule : CountingRule) (reads : List Read) (text other : List ℕ)
     → TellsReads rule reads text → TellsReads rule reads other → text ≡ other
 
--- the tables of two inputs that were counted apart, merged, are byte for byte the table of both counted together
+-- the tables of two inputs that were counted separately, merged, are byte for byte the table of both counted together
 abbrev pub ApartIsTogether : Settings → Type 0
 ApartIsTogether settings = (inputs more : List (List ℕ)) (first second merged whole : List ℕ)
     → settings.print ≡ print.Table → IsReportOn settings inputs first → IsReportOn settings more second
     → AreMerged first second merged → IsReportOn settings (inputs ++ more) whole → merged ≡ whole
 
--- the command `merge` writes what comes of the texts that its two files gave
+-- the command `merge` writes the sum of the tables in the texts that its two files gave
 abbrev pub MergeWritesMerged : Type 0
-MergeWritesMerged = (first second first_after second_after : Seen) (text : List ℕ) (told : Told)
-    → IsTextFor (given None (first ∷ second ∷ [])) (given None (first_after ∷ second_after ∷ [])) Merge text told
-    → (one other : List ℕ) × TakesAll first first_after most_table_bytes one
-    × TakesAll second second_after most_table_bytes other × AreMerged one other text
+MergeWritesMerged = (first second first_after second_after : Seen) (start now : Written) (told : Told)
+    → Combines combination.Merge (first ∷ second ∷ []) (first_after ∷ second_after ∷ []) start now (Ok told)
+    → (one other text : List ℕ) × TakesAll first first_after most_table_bytes one
+    × TakesAll second second_after most_table_bytes other × AreMerged one other text × HasWritten start now text

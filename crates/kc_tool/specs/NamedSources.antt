@@ -8,6 +8,6 @@ use Rattle.kc_tool.specs.declared.named_sources.NamedSource.{NamedSource}
 abbrev pub names_of : {S : Type 0} → List (NamedSource S) → List Text
 names_of sources = map (λ source. source.name.now) sources
 
--- what is seen of the sources, in order
+-- the views of the sources, in order
 abbrev pub seen_of : {S : Type 0} → (S → Seen) → List (NamedSource S) → List Seen
 seen_of seen sources = map (λ source. seen source.source) sources

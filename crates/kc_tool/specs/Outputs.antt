@@ -13,21 +13,22 @@ use Rattle.kc_tool.specs.declared.files.NotMade.TheVariants as why
 use Rattle.kc_tool.specs.declared.tool_faults.ToolFault.{ToolFault}
 use Rattle.kc_tool.specs.declared.tool_faults.ToolFault.TheVariants.{Write}
 
--- a name of the system: a device, or what a process has open. The folder /dev/shm has files as any other has
+-- whether this is a name of the system: a device, or what a process has open. The folder /dev/shm has files like any
+-- other
 abbrev pub begins : Text → Text → Bool
 begins name front = starts_with nat_eq name front
 
 abbrev pub is_of_system : Text → Bool
 is_of_system name = begins name (codes "/dev/") && not (begins name (codes "/dev/shm/")) || begins name (codes "/proc/")
 
--- the name of the new file of this number beside a file: that of the file, and this behind it
+-- the name of a new file beside a file: the name of the file with this suffix, for this number
 abbrev pub suffix : ℕ → Text
 suffix number = codes ".kcount-" ++ decimal number
 
 abbrev pub beside : Text → ℕ → Text
 beside path number = path ++ suffix number
 
--- how FILE is opened: with its text kept, behind which any bytes come, and made where there is none
+-- how FILE is opened: its text is kept, bytes are appended, and it is made if there is none
 pub record KeepsText (options : OpenOptions) : Type 0 where
   pub appends : asks_append options ≡ true
   pub creates : asks_create options ≡ true
@@ -38,20 +39,20 @@ pub record MakesAnew (options : OpenOptions) : Type 0 where
   pub writes : asks_write options ≡ true
   pub anew : asks_create_new options ≡ true
 
--- how many new files are tried at the most
+-- how many new files are tried at most
 abbrev pub most_tries : ℕ
 most_tries = 1000
 
--- the names of the first new files are taken
+-- the first n names of new files are taken
 abbrev pub taken_beside : Text → ℕ → List FileEvent
 taken_beside path zero = []
 taken_beside path (suc n) = taken_beside path n ++ not_made why.Taken (beside path (suc n)) ∷ []
 
--- FILE was opened to be written, and its links led to the path; it was closed with nothing written
+-- FILE was opened for writing and closed with nothing written, and its links led to the path
 abbrev pub looks_at : Text → Text → List FileEvent
 looks_at name path = created name ∷ wrote name no_history ∷ followed name path ∷ []
 
--- a new file was made beside the path, under this name, the first that was not taken
+-- a new file was made beside the path, under this name, the first that is not taken
 abbrev pub MakesBeside : Text → Text → List FileEvent → Type 0
 MakesBeside path name asked = (n : ℕ) × (n < most_tries) × (name ≡ beside path (suc n))
     × (asked ≡ taken_beside path n ++ made name ∷ [])
@@ -66,31 +67,31 @@ MakesNoneBeside path asked = ((n : ℕ) × (n < most_tries)
 abbrev pub StopsBeside : Text → List FileEvent → Type 0
 StopsBeside path asked = (n : ℕ) × (n < most_tries) × (asked ≡ taken_beside path n)
 
--- A text is to go to FILE: it is written under this name, and that file is renamed to the path, where there is one.
--- What is no regular file, or has a name of the system, is written itself. Else a new file beside it is
+-- A text for FILE is written to the file with this name, which is then renamed to the path, if there is one. What is no
+-- regular file, or has a name of the system, is written directly; otherwise a new file beside it
 abbrev pub OpensOutput : Text → Text → Option Text → List FileEvent → Type 0
 OpensOutput file name None asked = (name ≡ file)
     × ((asked ≡ reached file ∷ []) ⊎ ((asked ≡ created file ∷ []) × (is_of_system file ≡ true)))
 OpensOutput file name (Some path) asked = (is_of_system file ≡ false)
     × ((new : List FileEvent) × MakesBeside path name new × (asked ≡ looks_at file path ++ new))
 
--- FILE can't be opened to be written; or its links can't be followed; or no new file can be made beside it
+-- FILE can't be opened for writing; or its links can't be followed; or no new file can be made beside it
 abbrev pub OpensNoOutput : Text → List FileEvent → Type 0
 OpensNoOutput file asked = (asked ≡ not_created file ∷ [])
     ⊎ (asked ≡ created file ∷ wrote file no_history ∷ not_followed file ∷ [])
     ⊎ ((path : Text) × (none : List FileEvent) × MakesNoneBeside path none × (asked ≡ looks_at file path ++ none))
 
--- memory was refused before anything was asked of FILE, or for the name of a new file
+-- memory was refused before any request to FILE, or for the name of a new file
 abbrev pub LacksRoomForOutput : Text → List FileEvent → Type 0
 LacksRoomForOutput file asked = (asked ≡ [])
     ⊎ ((path : Text) × (some : List FileEvent) × StopsBeside path some × (asked ≡ looks_at file path ++ some))
 
--- the new file of this name was removed, or could not be
+-- the new file with this name was removed, or could not be
 abbrev pub Removes : Text → FileEvent → Type 0
 Removes name asked = (asked ≡ removed name) ⊎ (asked ≡ not_removed name)
 
--- What is asked when the work has ended, so, and the file of this name has taken what its history has. One that is to
--- go to a path is renamed to it after work that ended well, and that can fail; else it is removed
+-- The requests at the end of the work, with this outcome, for the file with this name, which has taken the bytes of its
+-- history. A new file for a path is renamed to it if the work succeeded, which can fail; otherwise it is removed
 abbrev pub ClosesOutput : {T : Type 0} → Text → Option Text → History → Result T ToolFault → Result T ToolFault
     → List FileEvent → Type 0
 ClosesOutput name None history work outcome asked = (outcome ≡ work) × (asked ≡ wrote name history ∷ [])
@@ -103,12 +104,12 @@ ClosesOutput name (Some path) history (Err fault) outcome asked = (outcome ≡ E
 
 -- ---- two texts
 
--- a new file that was to go to a path is removed; one that was named itself stays
+-- a new file for a path is removed; a file that was named itself stays
 abbrev pub Discards : Text → Option Text → List FileEvent → Type 0
 Discards name None asked = asked ≡ []
 Discards name (Some path) asked = (last : FileEvent) × Removes name last × (asked ≡ last ∷ [])
 
--- the file of a text is closed, when it has taken this, and a new one is removed
+-- the file of a text is closed, after it has taken this, and a new one is removed
 abbrev pub GivesUp : Text → Option Text → History → List FileEvent → Type 0
 GivesUp name path history asked =
     (last : List FileEvent) × Discards name path last × (asked ≡ wrote name history ∷ last)
@@ -118,18 +119,18 @@ abbrev pub Places : Text → Option Text → List FileEvent → Type 0
 Places name None asked = asked ≡ []
 Places name (Some path) asked = asked ≡ renamed name path ∷ []
 
--- it could not be, and is removed
+-- it could not be renamed, and is removed
 abbrev pub PlacesNot : Text → Option Text → List FileEvent → Type 0
 PlacesNot name None asked = ⊥
 PlacesNot name (Some path) asked =
     (last : FileEvent) × Removes name last × (asked ≡ not_renamed name path ∷ last ∷ [])
 
--- whether it was
+-- whether it was renamed
 abbrev pub IsPlaced : Bool → Text → Option Text → List FileEvent → Type 0
 IsPlaced true name path asked = Places name path asked
 IsPlaced false name path asked = PlacesNot name path asked
 
--- a file that a text was written to: its name, the path that it goes to, where there is one, and what it has taken
+-- a file that a text was written to: its name, the path that it goes to, if there is one, and what it has taken
 pub record Target : Type 0 where
   pub name : Text
   pub path : Option Text
@@ -138,14 +139,14 @@ pub record Target : Type 0 where
 abbrev pub target : Text → Option Text → History → Target
 target name path history = record { name = name; path = path; history = history }
 
--- what is asked of two files one after the other
+-- the requests to two files, one after the other
 abbrev pub AreAsked : (List FileEvent → Type 0) → (List FileEvent → Type 0) → List FileEvent → Type 0
 AreAsked First Second asked =
     (one : List FileEvent) × (other : List FileEvent) × First one × Second other × (asked ≡ one ++ other)
 
--- What is asked for two texts when both files were closed, and the work that wrote them ended so. After work that ended
--- well both files are put in place, the first text in front. Where that fails, what is not in place is removed, and so
--- is all after a fault
+-- The requests for two texts after both files were closed, by the outcome of the work that wrote them. If the work
+-- succeeded, both files are put in place, the first text first. If that fails, what is not in place is removed; after a
+-- fault of the work, everything is
 abbrev pub PutsBoth : {T : Type 0} → Sides Target → Result T ToolFault → Result T ToolFault → List FileEvent → Type 0
 PutsBoth to (Ok done) outcome asked =
     ((outcome ≡ Ok done) × AreAsked (Places to.first.name to.first.path) (Places to.second.name to.second.path) asked)
@@ -156,18 +157,19 @@ PutsBoth to (Ok done) outcome asked =
 PutsBoth to (Err fault) outcome asked = (outcome ≡ Err fault)
     × AreAsked (Discards to.first.name to.first.path) (Discards to.second.name to.second.path) asked
 
--- What is asked of both files when the work has ended: both are closed before the first is put in place
+-- The requests to both files at the end of the work: both are closed before the first is put in place
 abbrev pub ClosesBoth : {T : Type 0} → Sides Target → Result T ToolFault → Result T ToolFault → List FileEvent
     → Type 0
 ClosesBoth to work outcome asked = (last : List FileEvent) × PutsBoth to work outcome last
     × (asked ≡ wrote to.first.name to.first.history ∷ wrote to.second.name to.second.history ∷ last)
 
--- files were opened for two texts that are to go to these, the first one in front
+-- files were opened for two texts that go to these, the first one first
 abbrev pub OpensBoth : Text → Text → Text → Option Text → Text → Option Text → List FileEvent → Type 0
 OpensBoth first second name path other other_path asked =
     AreAsked (OpensOutput first name path) (OpensOutput second other other_path) asked
 
--- A file was opened for a text that is to go to this one, and none, so, for a second text. What was opened is given up
+-- A file was opened for the text that goes to this one, and none, by `OpensNone`, for a second text. What was opened is
+-- given up
 abbrev pub OpensNoSecond : Text → (List FileEvent → Type 0) → List FileEvent → Type 0
 OpensNoSecond first OpensNone asked = (name : Text) × (path : Option Text)
     × (opening : List FileEvent) × (none : List FileEvent) × (closing : List FileEvent)

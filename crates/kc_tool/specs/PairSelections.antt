@@ -15,7 +15,7 @@ use Rattle.kc_tally.specs.Tally.{TallySeen}
 use Rattle.kc_tool.specs.declared.tool_faults.ToolFault.{ToolFault}
 use Rattle.kc_tool.specs.declared.tool_faults.ToolFault.TheVariants.{Fastx, Memory, Unpaired, Write}
 
--- what is told of two sources: by which table and rule their reads are judged, and how many of a pair have to be solid;
+-- the task for two sources: the table and the rule that judge their reads, and how many of a pair have to be solid;
 -- each may give as many bytes as the sources of one count
 abbrev pub pairs_task : TallySeen → SelectionRule → PairRule → PairsTask
 pairs_task tally rule asked = record {
@@ -23,35 +23,35 @@ pairs_task tally rule asked = record {
   limit = most_bytes;
 }
 
--- the fault of two sources, as a fault of the program: the first source is number 1, and the second one number 2
+-- the fault of two sources, as a fault of the program: the first source is number 1, and the second is number 2
 abbrev pub pair_fault : PairFault → ToolFault
 pair_fault (why.Reads First fault) = Fastx 1 fault
 pair_fault (why.Reads Second fault) = Fastx 2 fault
 pair_fault (why.Unpaired number) = Unpaired number
 pair_fault why.Write = Write
 
--- what was counted of both reads of each pair, or that fault
+-- the numbers of both reads of each pair, or the fault
 abbrev pub counts_of_pairs : Result Selected PairFault → Result SelectionCounts ToolFault
 counts_of_pairs (Ok selected) = Ok selected.counts
 counts_of_pairs (Err fault) = Err (pair_fault fault)
 
--- what is the same of a first thing and of a second one
+-- the same value for both sides
 abbrev pub both : {A : Type 0} → A → A → Sides A
 both one other = record { first = one; second = other }
 
--- there are two sources, which are read together. Of each source the first list has what is seen before the call, the
--- second what is seen after it
+-- there are two sources, which are read together. The first list has their views before the call, the second those
+-- after it
 abbrev pub AreReadTogether : (Sides Seen → Sides Seen → Type 0) → List Seen → List Seen → Type 0
 AreReadTogether Read (first ∷ second ∷ []) (first_after ∷ second_after ∷ []) =
     Read (both first second) (both first_after second_after)
 AreReadTogether Read old new = ⊥
 
--- How pairs are selected by a task from two sources, with what comes of it, and where they are written.
+-- How a task selects pairs of two sources, with what result, and where they are written.
 abbrev pub Selecting : Type 1
 Selecting = PairsTask → Sides Seen → Sides Seen → Result Selected PairFault → Type 0
 
--- The pairs of two sources were selected so, and counted. Or memory was refused before the first read: then nothing was
--- read, and what is written to is `Kept`.
+-- The pairs of two sources were selected, and counted. Or memory was refused before the first read: then nothing was
+-- read, and `Kept` holds for the output.
 abbrev pub SelectsPairsFrom : Selecting → Type 0 → PairsTask → List Seen → List Seen
     → Result SelectionCounts ToolFault → Type 0
 SelectsPairsFrom Selects Kept task old new outcome =

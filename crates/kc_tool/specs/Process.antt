@@ -1,4 +1,4 @@
--- How the program ends as a process runs it: source, the README ("The exit status").
+-- How the program ends as a process: source, our formats page ("Refusals").
 use Rattle.std.specs.Prelude.{◌≡◌, ◌≢◌, ◌≤◌, ◌⊎◌, ℕ, Bool, List, [], codes, Option}
 use Rattle.std.specs.IoError.{error_kind}
 use Rattle.std.specs.declared.io.Error.{Error}
@@ -12,7 +12,7 @@ use Rattle.kc_tool.specs.Commands.{Surroundings}
 use Rattle.kc_tool.specs.FaultLines.{fault_line}
 use Rattle.kc_tool.specs.declared.tool_faults.ToolFault.TheVariants.{Memory}
 
--- how the program ends, by its status, where this text explains a fault, or closes what ended well
+-- how the program ends, by its status; this text explains a fault, or closes a success
 pub record Ends (watched : Bool) (arguments : List Text) (old new : Surroundings) (errors errors_after : Written)
     (explained : Text) (status : ℕ) : Type 0 where
   pub done : status ≡ 0 → EndsWell watched arguments old new errors errors_after explained
@@ -21,21 +21,21 @@ pub record Ends (watched : Bool) (arguments : List Text) (old new : Surroundings
       ⊎ EndsRefused arguments old new errors errors_after
   pub within : status ≤ 2
 
--- so it ends, and where a fault is explained, or a closing line is written, that may be so
+-- it ends so, and the text that explains a fault or closes a success is allowed
 pub record EndsSaying (watched : Bool) (arguments : List Text) (old new : Surroundings)
     (errors errors_after : Written) (status : ℕ) : Type 0 where
   pub explained : Text
   pub may : MayExplain watched arguments explained
   pub ends : Ends watched arguments old new errors errors_after explained status
 
--- what is told of arguments that std can't give, and the status: one of them is no text, or there was no memory
+-- what is printed if std can't give the arguments, and the status: one of them is no text, or there was no memory
 abbrev pub TellsUnread : Error → Written → Written → ℕ → Type 0
 TellsUnread error errors errors_after status =
     ((error_kind error ≡ InvalidData) × (status ≡ 2)
     × IsTold errors errors_after (codes "kcount: an argument is not UTF-8\n"))
     ⊎ ((error_kind error ≢ InvalidData) × (status ≡ 1) × IsTold errors errors_after (fault_line Memory))
 
--- the same, and nothing was read, written or asked of files
+-- the same, and nothing was read, written or requested of files
 pub record EndsUnread (error : Error) (old new : Surroundings) (errors errors_after : Written) (status : ℕ)
     : Type 0 where
   pub kept : new ≡ old
@@ -48,11 +48,11 @@ untouched left = record { left = left; history = no_history }
 abbrev pub unwritten : Option (List ℕ) → Written
 unwritten bytes = record { bytes = bytes; history = no_history }
 
--- both, where nothing was asked of files yet
+-- both, before any request to files
 abbrev pub at_first : Option (List ℕ) → Option (List ℕ) → Surroundings
 at_first left bytes = record { input = untouched left; output = unwritten bytes; asked = [] }
 
--- there are later states of the streams, and a log of what was asked of files, in which the program ends so
+-- there are later states of the streams, and a log of the requests to files, in which the program ends so
 pub record EndsOver (watched : Bool) (arguments : List Text) (old : Surroundings) (errors : Written) (status : ℕ)
     : Type 0 where
   pub new : Surroundings

@@ -1,4 +1,4 @@
--- Reports on a tally, and what counting the words of sources writes: source, our formats page ("Reports").
+-- Reports on a tally, and what a count of sources writes: source, our formats page ("Reports").
 use Rattle.std.specs.Prelude.{◌≡◌, ◌≤◌, ◌⊎◌, ℕ, List, Option, Some, None, Result, Ok, Err, IfOk, ⊤}
 use Rattle.kc_io.specs.Sinks.{Written, HasWritten, HasBegun}
 use Rattle.kc_io.specs.Sources.{Seen}
@@ -19,39 +19,39 @@ use Rattle.kc_command.specs.declared.settings.Print.{Print}
 use Rattle.kc_command.specs.declared.settings.Print.TheVariants as print
 use Rattle.kc_command.specs.Settings.{Settings}
 
--- the text of what is printed of a tally, where a dump is laid out so, and a histogram goes so high
+-- what is printed of a tally, with this form of a dump and this highest count of a histogram
 abbrev pub printed_text : Print → Dump → ℕ → TableSeen → List ℕ
 printed_text print.Table dump high table = table_text table.0 table.1
 printed_text print.Dump dump high table = dump_text table.0.k dump table.0.rows
 printed_text print.Histo dump high table = histo_text high table.0.rows
 printed_text print.Stats dump high table = statistics_text table.0.rows
 
--- the text of a report on a tally; a table says what it was counted from too
+-- the text of a report on a tally; a table also has its origin
 abbrev pub report_text : Report → TableSeen → List ℕ
 report_text report table = printed_text report.print report.dump report.high table
 
--- a histogram and statistics, which list no rows
+-- a histogram and the statistics list no rows
 abbrev pub ListsNoRows : Print → Type 0
 ListsNoRows print.Histo = ⊤
 ListsNoRows print.Stats = ⊤
 ListsNoRows print = ⊥
 
--- a histogram has lines of their own for the counts from 1 to 10,000,000 at most, and for 1 at least
+-- the highest count with a line of its own in a histogram is 1 to 10,000,000
 abbrev pub IsWritable : Report → Type 0
 IsWritable report = (1 ≤ report.high) × (report.high ≤ 10000000)
 
--- the report that is set
+-- the report of the settings
 abbrev pub report_of : Settings → Report
 report_of settings = record { print = settings.print; dump = settings.dump; high = settings.high }
 
--- the text was written; or a beginning of it, where writing failed; or memory was refused, and nothing was written
+-- the text was written; or a beginning of it, if writing failed; or memory was refused, and nothing was written
 abbrev pub WritesText : {A : Type 0} → List ℕ → Written → Written → Result A ToolFault → Type 0
 WritesText text old new (Ok done) = HasWritten old new text
 WritesText text old new (Err Write) = HasBegun old new text
 WritesText text old new (Err Memory) = new ≡ old
 WritesText text old new (Err fault) = ⊥
 
--- the report was written, or a beginning of it, or nothing for want of memory; or the tally is answered, and nothing
+-- the report was written, or a beginning of it, or nothing for lack of memory; or the tally is returned, and nothing
 -- was written
 abbrev pub WritesOrGives : {A : Type 0} → (A → TallySeen) → TableSeen → Report → Written → Written
     → Result (Option A) ToolFault → Type 0
@@ -60,7 +60,7 @@ WritesOrGives seen table report old new (Ok None) = HasWritten old new (report_t
 WritesOrGives seen table report old new (Err fault) =
     WritesText {A = Unit {0}} (report_text report table) old new (Err fault)
 
--- the text is the report that is set, of what is counted of what was given, up to later states of it
+-- the text is the report of the settings on the tally of what was given, which has some later state
 pub record IsReportOf (given : Given) (settings : Settings) (text : List ℕ) : Type 0 where
   pub later : Given
   pub table : TableSeen
@@ -71,17 +71,18 @@ pub record IsReportOf (given : Given) (settings : Settings) (text : List ℕ) : 
 abbrev pub WritesReport : Given → Settings → Written → Written → Type 0
 WritesReport given settings old new = (text : List ℕ) × IsReportOf given settings text × HasWritten old new text
 
--- the writer failed, and a beginning of that text was written
+-- the writer failed, and took a beginning of that text
 abbrev pub BeginsReport : Given → Settings → Written → Written → Type 0
 BeginsReport given settings old new = (text : List ℕ) × IsReportOf given settings text × HasBegun old new text
 
--- nothing was written, and nothing was counted for this reason, which later states of what was given show
+-- nothing was written, and nothing was counted for this reason, with some later state of what was given
 abbrev pub LeavesUnwritten : Given → Settings → Written → Written → ToolFault → Type 0
 LeavesUnwritten given settings old new fault =
     (new ≡ old) × IsRefusedCountOf given settings fault
 
--- the report that is set was written on a table that was counted, and it is told how much was counted; or a beginning
--- of it was, or nothing for want of memory; or nothing was counted for this reason, and nothing was written
+-- the report of the settings was written for a table that was counted, and the result has how much was counted; or a
+-- beginning of it was written, or nothing for lack of memory; or nothing was counted for this reason, and nothing was
+-- written
 abbrev pub ReportsOn : (TableSeen → Type 0) → (ToolFault → Type 0) → Settings → Written → Written
     → Result CountedWords ToolFault → Type 0
 ReportsOn Counted Refused settings old new outcome =
@@ -89,18 +90,18 @@ ReportsOn Counted Refused settings old new outcome =
     × IfOk outcome (λ words. words ≡ counted_of table))
     ⊎ ((fault : ToolFault) × (outcome ≡ Err fault) × Refused fault × (new ≡ old))
 
--- the same without how much was counted
+-- the same result without how much was counted
 abbrev pub done_of : Result CountedWords ToolFault → Result (Unit {0}) ToolFault
 done_of (Ok words) = Ok tt
 done_of (Err fault) = Err fault
 
--- so it is of the sources, with the words of a list where one is given
+-- the same for sources, with the words of a list if one is given
 abbrev pub ReportsSources : List Seen → List Seen → Option (List ℕ) → Settings → Written → Written
     → Result CountedWords ToolFault → Type 0
 ReportsSources old new list settings before after outcome =
     ReportsOn (TalliesSources old new settings list) (RefusesSources settings old new) settings before after outcome
 
--- so it is of what was given
+-- the same for what was given
 abbrev pub ReportsCount : Given → Given → Settings → Written → Written → Result CountedWords ToolFault → Type 0
 ReportsCount old new settings before after outcome =
     ReportsOn (Counts old new settings) (RefusesCount old new settings) settings before after outcome

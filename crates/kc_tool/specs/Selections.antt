@@ -16,18 +16,18 @@ use Rattle.kc_tool.specs.Tallies.{SourcePlace}
 use Rattle.kc_tool.specs.declared.tool_faults.ToolFault.{ToolFault}
 use Rattle.kc_tool.specs.declared.tool_faults.ToolFault.TheVariants.{Fastx, Memory, Write}
 
--- the line that says what was counted of the reads
+-- the line with the numbers of the reads
 abbrev pub counts_line : SelectionCounts → List ℕ
 counts_line counts = codes "kcount: " ++ decimal counts.reads ++ codes " reads, "
     ++ decimal counts.kept ++ codes " kept, "
     ++ decimal counts.words ++ codes " k-mers, "
     ++ decimal counts.solid ++ codes " solid\n"
 
--- what is told of one source, which may give so many bytes
+-- the task for one source, which may give so many bytes
 abbrev pub task_within : SelectionRule → TallySeen → ℕ → Task
 task_within rule tally limit = record { tally = tally; rule = rule; limit = limit }
 
--- of the number-th source the selected reads were written, and this was counted
+-- the selected reads of source `number` were written, and this was counted
 abbrev pub SelectsNext : Task → ℕ → Streams → Streams → Result Selected ToolFault → Type 0
 SelectsNext task number old new (Ok selected) = Selects task old new (Ok selected)
 SelectsNext task number old new (Err (Fastx source fault)) =
@@ -40,17 +40,16 @@ abbrev pub all_records : List (List Record) → List Record
 all_records [] = []
 all_records (records ∷ others) = records ++ all_records others
 
--- each source gave its records in this call, up to the end that it told, and all together no more bytes than the limit,
--- of which so many are left. Of each source the first list has what is seen before the call, the second what is seen
--- after it
+-- each source gave its records in this call, up to its end, and all together at most `limit` bytes, of which `left` are
+-- left. The first list has the views of the sources before the call, the second those after it
 abbrev pub GaveRecords : ℕ → ℕ → List Seen → List Seen → List (List Record) → Type 0
 GaveRecords limit left [] [] [] = left ≡ limit
 GaveRecords limit left (old ∷ olds) (new ∷ news) (here ∷ others) = (gives : GivesRecords old new limit here)
     × GaveRecords (limit - length gives.0) left olds news others
 GaveRecords limit left _ _ _ = ⊥
 
--- the sources before the number-th gave these records; of that one, which might give what they left of the limit, these
--- came first
+-- the sources before number `number` gave these records; that source, which may give what they left of the limit, gave
+-- these first
 pub record StopsAt (rule : SelectionRule) (tally : TallySeen) (old new : List Seen) (number : ℕ) : Type 0 where
   pub place : SourcePlace old new number
   pub earlier : List (List Record)
@@ -59,9 +58,9 @@ pub record StopsAt (rule : SelectionRule) (tally : TallySeen) (old new : List Se
   pub first : List Record
   pub came : BeginWith (task_within rule tally limit) place.here first
 
--- Ok: the selected reads of all sources were written, in order, and all were counted. Where a source has a fault, those
--- before it were written. Where the writer failed, a beginning of the text of those that had come was taken. Where
--- memory was refused before the first read, nothing was read or written.
+-- Ok: the selected reads of all sources were written, in order, and all were counted. If a source has a fault, the
+-- selected reads before it were written. If the writer failed, it took a beginning of the text of those that had come.
+-- If memory was refused before the first read, nothing was read or written.
 abbrev pub SelectsFrom : SelectionRule → TallySeen → List Seen → List Seen → Written → Written
     → Result SelectionCounts ToolFault → Type 0
 SelectsFrom rule tally old new before after (Ok counts) = (records : List (List Record)) × (left : ℕ)

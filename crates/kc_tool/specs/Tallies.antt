@@ -22,16 +22,16 @@ use Rattle.kc_tool.specs.declared.counted_sources.ReadsInCutting.{ReadsInCutting
 use Rattle.kc_tool.specs.declared.tool_faults.ToolFault.{ToolFault}
 use Rattle.kc_tool.specs.declared.tool_faults.ToolFault.TheVariants.{Fastx, Memory, Run}
 
--- each source gave its bytes in this call, up to the end that it told, and what they say is its input: gzip is
--- decompressed, other bytes are what they are. All inputs together have no more bytes than the limit. Of each source
--- the first list has what is seen before the call, the second what is seen after it
+-- each source gave its bytes in this call, up to its end, and their text is its input: gzip is decompressed, other
+-- bytes are their own text. All inputs together have at most `limit` bytes. The first list has the views of the sources
+-- before the call, the second those after it
 abbrev pub GaveInputs : ℕ → List Seen → List Seen → List (List ℕ) → Type 0
 GaveInputs limit [] [] [] = Unit {0}
 GaveInputs limit (old ∷ olds) (new ∷ news) (input ∷ inputs) =
     TakesAll old new limit input × GaveInputs (limit - length input) olds news inputs
 GaveInputs limit _ _ _ = ⊥
 
--- the sources gave inputs that have these reads, joined in order
+-- the sources gave inputs with these reads, joined in order
 pub record GaveReads (old new : List Seen) (inputs : List (List ℕ)) (reads : List Read) : Type 0 where
   pub gave : GaveInputs most_bytes old new inputs
   pub within : length (concat inputs) ≤ most_bytes
@@ -45,8 +45,8 @@ ReadsSources old new reads = (inputs : List (List ℕ)) × GaveReads old new inp
 abbrev pub pieces_of : CountingRule → List Read → List (List ℕ)
 pieces_of rule reads = map (λ read. cleaned rule read) reads
 
--- the pieces of the reads were cut by this rule into batches of so many positions, and have no more letters together
--- than the sources of one count may have bytes
+-- the pieces of the reads were cut by this rule into batches of so many positions, and have at most as many letters
+-- together as the sources of one count may have bytes
 pub record IsCuttingOf (rule : CountingRule) (batch : ℕ) (reads : List Read) (cutting : OpenCutting) : Type 0 where
   pub length_of_words : cutting.k ≡ rule.k
   pub size : cutting.size ≡ batch
@@ -62,7 +62,7 @@ pub record CutsSources (old new : List Seen) (rule : CountingRule) (batch : ℕ)
   pub counted : count ≡ length reads
   pub few : count ≤ most_bytes
 
--- the source gave `bytes` bytes with `count` reads, whose pieces were cut behind those that were cut before
+-- the source gave `bytes` bytes with `count` reads, and their pieces were cut after those that were cut before
 pub record CutsPieces (old new : Seen) (limit : ℕ) (rule : CountingRule) (bytes count : ℕ) (before after : OpenCutting)
     : Type 0 where
   pub reads : List Read
@@ -73,7 +73,7 @@ pub record CutsPieces (old new : Seen) (limit : ℕ) (rule : CountingRule) (byte
   pub size : after.size ≡ before.size
   pub behind : (pieces : List (List ℕ)) → HasTaken before pieces → HasTaken after (pieces ++ pieces_of rule reads)
 
--- one source more was read: it gave no more bytes than were left, and the pieces of its reads were cut
+-- one more source was read: it gave no more bytes than were left, and the pieces of its reads were cut
 pub record CutsNext (old new : Seen) (rule : CountingRule) (before after : ReadsInCutting) : Type 0 where
   pub bytes : ℕ
   pub count : ℕ
@@ -82,31 +82,31 @@ pub record CutsNext (old new : Seen) (rule : CountingRule) (before after : Reads
   pub sources : after.sources ≡ before.sources + 1
   pub reads : after.reads ≡ before.reads + count
 
--- why of the number-th source no pieces were cut; of want of memory outside its reader nothing is said
+-- why no pieces of source `number` were cut; lack of memory outside its reader has no further condition
 abbrev pub RefusesSource : Seen → Seen → ℕ → ℕ → ToolFault → Type 0
 RefusesSource old new number limit (Fastx source fault) = (source ≡ number) × RefusesFor old new limit fault
 RefusesSource old new number limit Memory = ⊤
 RefusesSource old new number limit _ = ⊥
 
--- why the source of a list, whose number is 0, gave no list; where memory was refused outside its reader, it had given
--- all its reads
+-- why the source of a list, which is number 0, gave no list; if memory was refused outside its reader, it had given all
+-- its reads
 abbrev pub RefusesList : Seen → Seen → ToolFault → Type 0
 RefusesList old new Memory = (reads : List Read) × (bytes : ℕ) × GivesReads old new most_bytes reads bytes
 RefusesList old new fault = RefusesSource old new 0 most_bytes fault
 
--- one source more may be read: there are not too many bytes or sources so far
+-- one more source may be read: there are not too many bytes or sources so far
 pub record MayCutNext (cut : ReadsInCutting) : Type 0 where
   pub few : cut.reads + cut.left ≤ most_bytes
   pub numbered : cut.sources < 2 ^ 64 - 1
 
--- it was, or it was refused
+-- it was read, or it was refused
 abbrev pub CutsNextOrRefuses : Seen → Seen → CountingRule → ReadsInCutting → ReadsInCutting
     → Result (Unit {0}) ToolFault → Type 0
 CutsNextOrRefuses old new rule before after (Ok done) = CutsNext old new rule before after
 CutsNextOrRefuses old new rule before after (Err fault) =
     RefusesSource old new (before.sources + 1) before.left fault
 
--- a place among the sources: the number-th, from 1, between those before it and those behind it, which are as they were
+-- a place among the sources: source `number`, from 1, after those before it, and before others, which are unchanged
 pub record SourcePlace (old new : List Seen) (number : ℕ) : Type 0 where
   pub before : List Seen
   pub given : List Seen
@@ -117,7 +117,7 @@ pub record SourcePlace (old new : List Seen) (number : ℕ) : Type 0 where
   pub are : new ≡ given ++ left ∷ behind
   pub counted : number ≡ length before + 1
 
--- the number-th source is the first that has no reads: those before it gave theirs, and it was refused in this call for
+-- source `number` is the first without reads: those before it gave theirs, and this one was refused in this call for
 -- this fault
 pub record FailsAt (old new : List Seen) (number : ℕ) (fault : FastxFault) : Type 0 where
   pub place : SourcePlace old new number
@@ -130,13 +130,13 @@ pub record FailsAt (old new : List Seen) (number : ℕ) (fault : FastxFault) : T
 abbrev pub TablesMayBeFull : Settings → Type 0
 TablesMayBeFull settings = 2 ^ most_log * settings.stripes < 4 ^ settings.k
 
--- a fault with which a run may end that counts by these settings: it names one of their threads or of their stripes,
--- and a full one only where tables may be full
+-- an error that a run with these settings may return: it names one of their threads or stripes, and a full stripe only
+-- if tables may be full
 abbrev pub MayFail : Settings → RunFault → Type 0
 MayFail settings fault = IsRunFault (TablesMayBeFull settings) settings.workers settings.stripes fault
 
--- why the sources were not counted: one has no reads; or all gave reads, and the run over them was refused. Of want of
--- memory outside the readers nothing is said
+-- why the sources were not counted: one has no reads; or all gave reads, and the run over them was refused. Lack of
+-- memory outside the readers has no further condition
 abbrev pub RefusesSources : Settings → List Seen → List Seen → ToolFault → Type 0
 RefusesSources settings old new (Fastx number fault) = FailsAt old new number fault
 RefusesSources settings old new (Run fault) = (reads : List Read) × ReadsSources old new reads × MayFail settings fault
@@ -148,36 +148,37 @@ abbrev pub reader_lacks_memory : ToolFault → Bool
 reader_lacks_memory (Fastx source NoMemory) = true
 reader_lacks_memory _ = false
 
--- a tally, and what it was counted from where that is told
+-- a tally, and its origin if that is known
 abbrev pub TableSeen : Type 0
 TableSeen = TallySeen × Option Origin
 
--- the rule of a count that is kept to a list of words, where one is given
+-- the rule of a count, restricted to a list of words if one is given
 abbrev pub kept_to : Option (List ℕ) → CountingRule → CountingRule
 kept_to None rule = rule
 kept_to (Some words) rule = with_list rule words
 
--- a list is one under a rule: its words are as long, and in the forms under which words count
+-- a list fits a rule: its words have the same length, and the same strands count
 pub record IsListUnder (rule : CountingRule) (list : WordList) : Type 0 where
   pub k : list.k ≡ rule.k
   pub both : list.both ≡ rule.both
 
--- the words of a list, where one is given
+-- the words of a list, if one is given
 abbrev pub words_of : Option WordList → Option (List ℕ)
 words_of list = option_map (λ list. list.words) list
 
--- what is told of a count: its floor, the number of all reads, and whether a list was given
+-- the origin of a count: its floor, the number of all reads, and whether a list was given
 abbrev pub origin_of : Settings → Option (List ℕ) → ℕ → Origin
 origin_of settings list count = record { floor = settings.floor; reads = count; listed = is_some list }
 
--- the tally is that of all reads that the sources gave, of the words of the list where one is given, with its origin
+-- the tally is that of all reads that the sources gave, restricted to the words of the list if one is given, with its
+-- origin
 abbrev pub TalliesSources : List Seen → List Seen → Settings → Option (List ℕ) → TableSeen → Type 0
 TalliesSources old new settings list table = (reads : List Read) × ReadsSources old new reads
     × IsTallyOf (kept_to list (rule_of settings)) reads table.0
     × (table.1 ≡ Some (origin_of settings list (length reads)))
 
--- the sources gave reads, and these are the batches of their pieces, of at least as many positions as were asked for
--- and of no more than that or 4,000,000; this is told of a count of them
+-- the sources gave reads, and these are the batches of their pieces, with at least as many positions as were asked for
+-- and at most that or 4,000,000; this is the origin of a count of them
 pub record CutsBatches (old new : List Seen) (settings : Settings) (list : Option (List ℕ))
     (batches : List NumberedPieces) (origin : Origin) : Type 0 where
   pub reads : List Read
@@ -192,7 +193,7 @@ pub record CutsBatches (old new : List Seen) (settings : Settings) (list : Optio
 
 -- ---- a list
 
--- what a count is given: the source of the list of words to which it is kept, where there is one, and its sources
+-- what a count is given: the source of its list of words, if there is one, and its sources
 pub record Given : Type 0 where
   pub list : Option Seen
   pub sources : List Seen
@@ -207,53 +208,53 @@ pub record GivesWords (rule : CountingRule) (old new : Seen) (list : WordList) :
   pub given : GivesReads old new most_bytes reads bytes
   pub is_list : IsListOf rule reads list
 
--- the words of the list, where one is given
+-- the words of the list, if one is given
 abbrev pub GivesList : CountingRule → Option Seen → Option Seen → Option (List ℕ) → Type 0
 GivesList rule None None None = ⊤
 GivesList rule (Some old) (Some new) (Some words) =
     (list : WordList) × GivesWords rule old new list × (list.words ≡ words)
 GivesList rule _ _ _ = ⊥
 
--- the same of a list, with a later state of its source
+-- the same for a list, with some later state of its source
 abbrev pub GivesListOf : CountingRule → Option Seen → Option WordList → Type 0
 GivesListOf rule source list = (later : Option Seen) × GivesList rule source later (words_of list)
     × IfSome list (IsListUnder rule)
 
--- the source of the list is refused for this reason, which a later state of it shows; it is number 0
+-- the source of the list is refused for this reason, with some later state of it; it is number 0
 abbrev pub ListFailsIn : Option Seen → ToolFault → Type 0
 ListFailsIn None fault = ⊥
 ListFailsIn (Some source) fault = (later : Seen) × RefusesList source later fault
 
--- the table that is counted: the list, where one is given, and then the sources gave their reads
+-- the table that is counted: the list, if one is given, and then the sources gave their reads
 pub record Counts (old new : Given) (settings : Settings) (table : TableSeen) : Type 0 where
   pub list : Option (List ℕ)
   pub listed : GivesList (rule_of settings) old.list new.list list
   pub tallied : TalliesSources old.sources new.sources settings list table
 
--- the source of the list has no reads: its number is 0, and the sources are as they were
+-- the source of the list has no reads: its number is 0, and the sources are unchanged
 abbrev pub ListFails : Given → Given → ToolFault → Type 0
 ListFails old new (Fastx number fault) = (before : Seen) × (after : Seen) × (old.list ≡ Some before)
     × (new.list ≡ Some after) × (number ≡ 0) × RefusesFor before after most_bytes fault × (new.sources ≡ old.sources)
 ListFails old new _ = ⊥
 
--- the list, where one is given, gave its reads, and the sources were not counted
+-- the list, if one is given, gave its reads, and the sources were not counted
 pub record SourcesFail (old new : Given) (settings : Settings) (fault : ToolFault) : Type 0 where
   pub list : Option (List ℕ)
   pub listed : GivesList (rule_of settings) old.list new.list list
   pub refused : RefusesSources settings old.sources new.sources fault
 
--- the source of a list, where there is one, gave all its reads
+-- the source of a list, if there is one, gave all its reads
 abbrev pub ListGave : Option Seen → Option Seen → Type 0
 ListGave None new = ⊤
 ListGave (Some old) (Some new) = (reads : List Read) × (bytes : ℕ) × GivesReads old new most_bytes reads bytes
 ListGave (Some old) None = ⊥
 
--- why nothing was counted. Of want of memory outside the readers no more is said than that a list had given its reads
+-- why nothing was counted. For lack of memory outside the readers the only condition is that a list had given its reads
 abbrev pub RefusesCount : Given → Given → Settings → ToolFault → Type 0
 RefusesCount old new settings Memory = ListGave old.list new.list
 RefusesCount old new settings fault = ListFails old new fault ⊎ SourcesFail old new settings fault
 
--- the table that is counted of what was given, and why nothing was counted of it, up to later states of it
+-- the table that is counted of what was given, or why nothing was counted of it, with some later state of it
 abbrev pub IsCountOf : Given → Settings → TableSeen → Type 0
 IsCountOf given settings table = (later : Given) × Counts given later settings table
 

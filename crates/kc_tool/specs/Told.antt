@@ -1,7 +1,8 @@
--- What there is to say of a command that ended well: source, our formats page ("The closing line").
+-- What there is to report of a command that succeeded: source, our formats page ("The closing line").
 use Rattle.std.specs.Prelude.{ℕ, ◌/◌, ◌%◌, nat_lt, zero, suc, true, [], ◌++◌, length, Option, Some, None}
 use Rattle.std.specs.Prelude.{codes, decimal, if◌then◌else◌, option_map, ◌≡◌, ◌==◌}
 use Rattle.clap.specs.Words.{Text}
+use Rattle.kc_combine.specs.declared.written_tables.Totals.{Totals}
 use Rattle.kc_report.specs.declared.origin.Origin.{Origin}
 use Rattle.kc_select.specs.declared.selection_counts.SelectionCounts.{SelectionCounts}
 use Rattle.kc_tally.specs.Tally.{TallySeen, total_of}
@@ -11,15 +12,19 @@ use Rattle.kc_tool.specs.declared.told.CountedWords.{CountedWords}
 use Rattle.kc_tool.specs.declared.told.Told.{Told}
 use Rattle.kc_tool.specs.declared.told.Told.TheVariants.{Nothing, Counted, Selected, Profiled}
 
--- how many k-mers a tally has, of so many reads
+-- how many k-mers a tally has, with the number of reads
 abbrev pub counted_with : Option ℕ → TallySeen → CountedWords
 counted_with reads tally = record { reads = reads; total = total_of tally.rows; distinct = length tally.rows }
 
--- how many reads a table was counted from, where that is told
+-- how many k-mers a combination of tables has; of how many reads is not printed
+abbrev pub counted_in : Totals → CountedWords
+counted_in totals = record { reads = None; total = totals.total; distinct = totals.distinct }
+
+-- how many reads a table was counted from, if that is known
 abbrev pub reads_of : Option Origin → Option ℕ
 reads_of origin = option_map (λ origin. origin.reads) origin
 
--- how many k-mers there are of a count, of as many reads as its origin says
+-- how many k-mers a count has, with the number of reads in its origin
 abbrev pub counted_of : TableSeen → CountedWords
 counted_of table = counted_with (reads_of table.1) table.0
 
@@ -32,7 +37,7 @@ zeros_before n = if nat_lt n 10 then codes "00" else if nat_lt n 100 then codes 
 abbrev pub three_digits : ℕ → Text
 three_digits n = zeros_before n ++ decimal n
 
--- a number in groups of three digits with commas between them; so many may come behind the first
+-- a number in groups of three digits with commas between them, with at most so many groups after the first
 abbrev pub in_groups : ℕ → ℕ → Text
 in_groups zero n = decimal n
 in_groups (suc more) n =
@@ -42,11 +47,11 @@ in_groups (suc more) n =
 abbrev pub grouped : ℕ → Text
 grouped n = in_groups 6 n
 
--- so many of a thing, as `1 read` and `2 reads`
+-- a number of things, as `1 read` and `2 reads`
 abbrev pub many : ℕ → Text → Text
 many n thing = grouped n ++ codes " " ++ thing ++ (if n == 1 then [] else codes "s")
 
--- how long it took, in tenths of a second, where that is known
+-- how long it took, in tenths of a second, if that is known
 abbrev pub time_text : Option ℕ → Text
 time_text None = codes "\n"
 time_text (Some tenths) = codes ", " ++ decimal (tenths / 10) ++ codes "." ++ decimal (tenths % 10) ++ codes " s\n"
@@ -55,13 +60,13 @@ abbrev pub reads_text : Option ℕ → Text
 reads_text None = []
 reads_text (Some reads) = many reads (codes "read") ++ codes ", "
 
--- what is said besides where no k-mer was counted
+-- what is added if no k-mer was counted
 abbrev pub none_text : ℕ → Text
 none_text n = if n == 0
     then codes "  no k-mer was counted: one is k letters A, C, G or T in a row, and with --only of the list\n"
     else []
 
--- the line that says what was counted, selected or profiled, and how long it took
+-- the line with what was counted, selected or profiled, and how long it took
 abbrev pub closing_line : Told → Option ℕ → Text
 closing_line Nothing passed = []
 closing_line (Counted words) passed = reads_text words.reads ++ many words.total (codes "k-mer") ++ codes ", "
@@ -71,13 +76,13 @@ closing_line (Selected counts asked) passed = grouped counts.kept ++ codes " of 
 closing_line (Profiled counts) passed =
     many counts.reads (codes "read") ++ codes ", " ++ many counts.words (codes "k-mer") ++ time_text passed
 
--- the text is the closing line, whatever the clock says
+-- the text is the closing line, for any time of the clock
 abbrev pub IsClosing : Told → Text → Type 0
 IsClosing told text = (passed : Option ℕ) × (text ≡ closing_line told passed)
 
 -- ---- the line for programs
 
--- the counts of a selection, where they are asked for, and their line
+-- the counts of a selection, if they are asked for, and their line
 abbrev pub asked_counts : Told → Option SelectionCounts
 asked_counts (Selected counts true) = Some counts
 asked_counts told = None

@@ -8,7 +8,7 @@ use crate::told::{CountedWords, Told};
 use kc_report::Block;
 use kc_select::SelectionCounts;
 
-/// The closing line of a command, where so many tenths of a second have passed. It takes no memory.
+/// The closing line of a command, with the time in tenths of a second. It takes no memory.
 pub(crate) fn closing_line(told: &Told, tenths: Option<u64>) -> Block
     ensures { result ≡ closing_line told.now tenths }
 {
@@ -22,7 +22,7 @@ pub(crate) fn closing_line(told: &Told, tenths: Option<u64>) -> Block
     text
 }
 
-// Puts the line of a count at the end of the text.
+// Appends the line of a count to the text.
 fn push_counted(text: &mut Block, words: &CountedWords, tenths: Option<u64>)
     requires room { length text.old ≤ 100 }
     ensures { text.new ≡ text.old ++ reads_text words.now.reads ++ many words.now.total (codes "k-mer") ++ codes ", "
@@ -37,7 +37,7 @@ fn push_counted(text: &mut Block, words: &CountedWords, tenths: Option<u64>)
     push_none(text, words.total);
 }
 
-// Puts how many reads there were, where that is part of the line, at the end of the text.
+// Appends how many reads there were to the text, if the line has that.
 fn push_reads(text: &mut Block, reads: Option<u64>)
     requires room { length text.old ≤ 100 }
     ensures pushed { text.new ≡ text.old ++ reads_text reads }
@@ -50,11 +50,11 @@ fn push_reads(text: &mut Block, reads: Option<u64>)
     text.push(b", ");
 }
 
-// What is printed where no k-mer was counted.
+// What is printed if no k-mer was counted.
 const NONE: &[u8] =
     b"  no k-mer was counted: one is k letters A, C, G or T in a row, and with --only of the list\n";
 
-// Puts that at the end of the text where so many were.
+// Appends that to the text if none was counted.
 fn push_none(text: &mut Block, total: u64)
     requires room { length text.old ≤ 2000 }
     ensures { text.new ≡ text.old ++ none_text total }
@@ -64,7 +64,7 @@ fn push_none(text: &mut Block, total: u64)
     }
 }
 
-// Puts the line of a selection at the end of the text.
+// Appends the line of a selection to the text.
 fn push_selected(text: &mut Block, counts: &SelectionCounts, tenths: Option<u64>)
     requires room { length text.old ≤ 100 }
     ensures { text.new ≡ text.old ++ grouped counts.now.kept ++ codes " of " ++ many counts.now.reads (codes "read")
@@ -77,7 +77,7 @@ fn push_selected(text: &mut Block, counts: &SelectionCounts, tenths: Option<u64>
     push_time(text, tenths);
 }
 
-// Puts the line of profiles at the end of the text.
+// Appends the line of profiles to the text.
 fn push_profiled(text: &mut Block, counts: &SelectionCounts, tenths: Option<u64>)
     requires room { length text.old ≤ 100 }
     ensures { text.new ≡ text.old ++ many counts.now.reads (codes "read") ++ codes ", "
@@ -89,7 +89,7 @@ fn push_profiled(text: &mut Block, counts: &SelectionCounts, tenths: Option<u64>
     push_time(text, tenths);
 }
 
-// Puts the time that has passed, where it is known, and the end of the line at the end of the text.
+// Appends the time that has passed, if it is known, and the end of the line to the text.
 fn push_time(text: &mut Block, tenths: Option<u64>)
     requires room { length text.old ≤ 1500 }
     ensures pushed { text.new ≡ text.old ++ time_text tenths }
@@ -106,7 +106,7 @@ fn push_time(text: &mut Block, tenths: Option<u64>)
     text.push(b" s\n");
 }
 
-// Puts so many of a thing at the end of the text.
+// Appends a number of things to the text.
 fn push_many(text: &mut Block, number: u64, thing: &[u8])
     requires room { length text.old ≤ 1000 }
     requires thing { length thing.now ≤ 20 }
@@ -121,7 +121,7 @@ fn push_many(text: &mut Block, number: u64, thing: &[u8])
     }
 }
 
-// Puts a number in groups of three digits at the end of the text.
+// Appends a number in groups of three digits to the text.
 fn push_grouped(text: &mut Block, number: u64)
     requires room { length text.old ≤ 1000 }
     ensures pushed { text.new ≡ text.old ++ grouped number }
@@ -130,7 +130,7 @@ fn push_grouped(text: &mut Block, number: u64)
     push_groups(text, number, 6);
 }
 
-// The same with at most so many groups behind the first.
+// The same with at most so many groups after the first.
 fn push_groups(text: &mut Block, number: u64, more: u32)
     requires room { length text.old ≤ 1000 }
     requires few { more ≤ 6 }
@@ -146,7 +146,7 @@ fn push_groups(text: &mut Block, number: u64, more: u32)
     push_three_digits(text, number % 1_000);
 }
 
-// Puts a number below 1,000 with three digits at the end of the text.
+// Appends a number below 1,000 with three digits to the text.
 fn push_three_digits(text: &mut Block, number: u64)
     requires room { length text.old ≤ 2000 }
     ensures pushed { text.new ≡ text.old ++ three_digits number }
@@ -156,7 +156,7 @@ fn push_three_digits(text: &mut Block, number: u64)
     text.push_number(number);
 }
 
-// The zeros in front of a number that is to have three digits.
+// The zeros before a number that should have three digits.
 fn zeros_before(number: u64) -> &'static [u8]
     ensures zeros { result.now ≡ zeros_before number }
     ensures few { length result.now ≤ 2 }

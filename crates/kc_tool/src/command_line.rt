@@ -1,4 +1,4 @@
-//! The command line: what its arguments ask for is carried out, over streams that the caller keeps.
+//! The command line: it is carried out over streams that the caller keeps.
 ghost use Rattle.std.specs.Prelude.{◌≡◌, ◌≤◌, ◌⊎◌, ◌++◌, [], Bool, true, IfErr, IfOk, List, MatchOption, Some};
 ghost use Rattle.std.specs.Prelude.{codes, map};
 ghost use Rattle.std.specs.Prelude.{string_bytes};
@@ -22,13 +22,13 @@ use crate::counts_line::write_counts;
 use crate::explanations::{Known, explanation};
 use crate::fault_lines::write_fault;
 use crate::files::NamedFiles;
-use crate::option_tips::{refusal_text, with_tip};
+use crate::option_tips::{Conflict, conflict_text, with_tip};
 use crate::told::{Told, asked_counts};
 use crate::tool_faults::ToolFault;
 use clap::ArgMatches;
 use clap::error::ErrorKind;
 use kc_command::command::command;
-use kc_command::{PairsRefusal, has_flag, pairs_refusal};
+use kc_command::{has_flag, has_too_many_tables, pairs_refusal};
 use kc_io::{Failed, Sink, Source, write_out};
 use kc_report::Block;
 use kc_select::SelectionCounts;
@@ -38,7 +38,7 @@ use std::rt::Files;
 use std::sync::Wait;
 use std::thread::Threads;
 
-/// The exit status where all went well.
+/// The exit status of success.
 const DONE: u8 = 0;
 /// The exit status of a fault.
 const FAULT: u8 = 1;
@@ -48,20 +48,20 @@ const REFUSED: u8 = 2;
 // The line for an argument that is no text.
 const NOT_TEXT: &[u8] = b"kcount: an argument is not UTF-8\n";
 
-/// Carries out the command line `arguments`, which begins with the program's name, and answers the exit status. Files
+/// Carries out the command line `arguments`, which begins with the program's name, and returns the exit status. Files
 /// are opened and created by their names. The progress of a count is reported to `progress`, and its end before the
 /// report or the line of a fault is written.
 ///
-/// Status 0: the output, or the file that the arguments name for it, or the two, has what the arguments ask for: a
-/// report, the answer to a query, selected reads, profiles, help or the version; and a selection's counts went to the
-/// errors, where they are asked for. Status 1: the line of a fault went to the errors, and the output is as it was, or
-/// has a beginning of the answer where writing failed, or what was selected before the fault. Status 2: the output is
-/// as it was, and why the arguments are refused went to the errors. The input is read where a command reads no file,
-/// and else it is as it was; and nothing is asked of files but what the command asks for.
+/// Status 0: the output, or the file or both files that the arguments name for it, has what the arguments ask for: a
+/// report, the counts of a query, selected reads, profiles, help or the version; and a selection's counts went to the
+/// errors, if they are asked for. Status 1: the line of a fault went to the errors, and the output is unchanged, or has
+/// a beginning of the text if writing failed, or what was selected before the fault. Status 2: the output is unchanged,
+/// and the reason why the arguments are refused went to the errors. The input is read if a command reads no file,
+/// otherwise it is unchanged; and no file is requested but those that the command asks for.
 ///
-/// The arguments are as std gives them. If one of them is not UTF-8, that refuses the command line: status 2, nothing
-/// was read or written, and a line about it went to the errors. If they can't be had otherwise, there was no memory
-/// for them: status 1, and the line of `Memory`.
+/// The arguments are as std gives them. If one of them is not UTF-8, the command line is refused: status 2, nothing was
+/// read or written, and a line about it went to the errors. If they can't be had for another reason, there was no
+/// memory for them: status 1, and the line of `Memory`.
 pub fn run<H: Threads + Wait + Sync, S: Files, R: Source, W: Sink, E: Sink, P: Progress + Sync>(
     rt: &H,
     alloc: Global,
@@ -93,15 +93,15 @@ pub fn run<H: Threads + Wait + Sync, S: Files, R: Source, W: Sink, E: Sink, P: P
         Ok(matches) => matches,
         Err(error) => return tell_end(show(alloc, &error, arguments, output), b"", errors),
     };
-    // `clap` passes no command line without one of the commands
+    // `clap` accepts no command line without one of the commands
     let Some((name, matches)) = matches.subcommand() else {
         unreachable!()
     };
     let Some(verb) = verb_named(name) else {
         unreachable!()
     };
-    if let Some(refusal) = refusal_of(verb, matches) {
-        return tell_end(Err(refused(alloc, refusal)), b"", errors);
+    if let Some(conflict) = conflict_of(verb, matches) {
+        return tell_end(Err(ending_of_conflict(alloc, verb, conflict)), b"", errors);
     }
     let means = Means {
         rt,
@@ -110,32 +110,38 @@ pub fn run<H: Threads + Wait + Sync, S: Files, R: Source, W: Sink, E: Sink, P: P
     };
     let ended = run_command(&means, verb, matches, files, input, output);
     progress.ends();
-    let said = said(&means, &ended, verb, matches, files);
+    let said = closing_remark(&means, &ended, verb, matches, files);
     tell_end(ended.map_err(Ending::Fault), said.as_bytes(), errors)
 }
 
-// Why the options of a command don't go together, where they don't.
-fn refusal_of(verb: Verb, matches: &ArgMatches<'_>) -> Option<PairsRefusal>
+// Why the arguments of a command conflict, if they do.
+fn conflict_of(verb: Verb, matches: &ArgMatches<'_>) -> Option<Conflict>
     ensures { MatchOption result (GoTogether verb (rows_of (found_of matches.now)))
-        (λ refusal. AreNotTogether verb (rows_of (found_of matches.now)) refusal) }
+        (λ conflict. AreNotTogether verb (rows_of (found_of matches.now)) conflict) }
 {
     match verb {
-        Verb::Select => pairs_refusal(matches),
+        Verb::Select => match pairs_refusal(matches) {
+            Some(why) => Some(Conflict::Pairs(why)),
+            None => None,
+        },
+        Verb::Merge | Verb::Intersect | Verb::Subtract if has_too_many_tables(matches) => {
+            Some(Conflict::TooManyTables)
+        }
         _ => None,
     }
 }
 
-// The end of a command line whose options don't go together.
-fn refused(alloc: Global, refusal: PairsRefusal) -> Ending
+// The end of a command line with arguments that conflict.
+fn ending_of_conflict(alloc: Global, verb: Verb, conflict: Conflict) -> Ending
     ensures { RefusesSo result }
 {
-    match refusal_text(alloc, refusal) {
+    match conflict_text(alloc, verb, conflict) {
         Ok(text) => Ending::Refused(text),
         Err(_) => Ending::Fault(ToolFault::Memory),
     }
 }
 
-// What is printed beside the lines for programs.
+// What is printed besides the lines for programs.
 #[derive(Drop)]
 enum Remark {
     // Nothing.
@@ -159,9 +165,9 @@ impl Remark {
     }
 }
 
-// The closing line of what ended well, or the text that explains a fault, where a person reads the errors, or where
-// that is asked for. Elsewhere nothing is printed, nor where there is no memory to explain a fault.
-fn said<H: Threads, S: Files, P: Progress>(
+// The closing line of a success, or the text that explains a fault, if a person reads the errors or asks for it.
+// Otherwise nothing is printed, nor if there is no memory to explain a fault.
+fn closing_remark<H: Threads, S: Files, P: Progress>(
     means: &Means<'_, H, P>,
     ended: &Result<Told, ToolFault>,
     verb: Verb,
@@ -196,12 +202,12 @@ fn said<H: Threads, S: Files, P: Progress>(
     }
 }
 
-// Tells why there are no arguments: the exit status.
+// Prints why there are no arguments, and returns the exit status.
 fn tell_unread<E: Sink>(error: &io::Error, errors: &mut E) -> u8
     ensures { TellsUnread error.now (E.seen errors.old) (E.seen errors.new) result }
 {
     if error.kind() == io::ErrorKind::InvalidData {
-        // as with any refusal, failing to print that changes no status
+        // as with any refusal, the status is the same if this can't be printed
         let _ = write_out(errors, NOT_TEXT);
         return REFUSED;
     }
@@ -209,8 +215,8 @@ fn tell_unread<E: Sink>(error: &io::Error, errors: &mut E) -> u8
     FAULT
 }
 
-// Tells how a command line ended, and puts this text behind the line of a fault, or of what was asked for: the exit
-// status. Failing to print that changes no status.
+// Prints how a command line ended, with this text after the line of a fault, or of what was asked for, and returns the
+// exit status. The status is the same if that can't be printed.
 fn tell_end<E: Sink>(ended: Result<Told, Ending>, said: &[u8], errors: &mut E) -> u8
     ensures within { result ≤ 2 }
     ensures ends { (watched : Bool) (arguments : List Text) (old new : Surroundings)
@@ -234,8 +240,8 @@ fn tell_end<E: Sink>(ended: Result<Told, Ending>, said: &[u8], errors: &mut E) -
     }
 }
 
-// Writes the counts of a selection, where they are asked for, and behind them this text. Where there is nothing to
-// write, nothing is asked of the errors.
+// Writes the counts of a selection, if they are asked for, followed by this text. If there is nothing to write, the
+// errors are not called.
 fn write_told<E: Sink>(errors: &mut E, told: &Told, said: &[u8]) -> Result<(), Failed>
     ensures { SaysText (asked_line told.now ++ said.now) (E.seen errors.old) (E.seen errors.new) }
 {
@@ -246,7 +252,7 @@ fn write_told<E: Sink>(errors: &mut E, told: &Told, said: &[u8]) -> Result<(), F
     }
 }
 
-// Writes the line of the counts of a selection, and behind it this text.
+// Writes the line of the counts of a selection, followed by this text.
 fn write_counted<E: Sink>(
     errors: &mut E,
     counts: &SelectionCounts,
@@ -264,7 +270,7 @@ fn write_counted<E: Sink>(
     }
 }
 
-// Writes the line of a fault, and behind it this text.
+// Writes the line of a fault, followed by this text.
 fn write_explained<E: Sink>(
     errors: &mut E,
     fault: &ToolFault,

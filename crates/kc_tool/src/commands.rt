@@ -1,4 +1,4 @@
-//! The commands: what a command is to do, the files that it reads, and what it writes.
+//! The commands: their tasks, the files that they read, and what they write.
 ghost use Rattle.std.specs.Prelude.{◌≡◌, ◌≤◌, ◌⊎◌, [], ◌∷◌, drop, length, map, string_bytes};
 ghost use Rattle.std.specs.Prelude.{option_map, unwrap_or};
 ghost use Rattle.std.specs.Prelude.{IfErr, IfOk, None};
@@ -9,6 +9,7 @@ ghost use Rattle.kc_io.specs.Sources.{Seen};
 ghost use Rattle.kc_select.specs.Pairs.{each};
 ghost use Rattle.kc_tool.specs.Commands.{
   AsksForTask,
+  Combines,
   Does,
   DoesApart,
   DoesByTally,
@@ -43,7 +44,10 @@ ghost use Rattle.kc_tool.specs.Tallies.{given};
 use crate::count_progress::{Progress, Stage};
 use crate::counted_sources::Means;
 use crate::files::{FileSource, NamedFiles, open_files, size_behind, take_sources};
-use crate::given_options::{dump_options, high_of, options, profile_options, select_options};
+use crate::given_options::{
+    dump_options, filter_options, high_of, intersect_options, options, profile_options,
+    select_options,
+};
 use crate::given_sources::GivenSources;
 use crate::named_sources::NamedSource;
 use crate::outputs::{close_both, close_output, open_both, open_output};
@@ -51,21 +55,24 @@ use crate::paired_sources::{Pairing, select_pairs};
 use crate::pairs_writers::{Apart, Interleaved};
 use crate::reports::{Crew, Report, report_given, write_numbers, write_report};
 use crate::selected_sources::select_given;
-use crate::task_tallies::{asked_of, numbers_of, report_listed, sum_of, table_from, table_of};
+use crate::task_tallies::{asked_rows, numbers_of, report_listed, table_from, table_of, tables_of};
 use crate::told::{CountedWords, Told};
-use crate::tool_faults::ToolFault;
+use crate::tool_faults::{ToolFault, combine_fault};
 use clap::ArgMatches;
-use kc_command::command::{COUNT, DUMP, HISTO, MERGE, PROFILE, QUERY, SELECT, STATS};
-use kc_command::{Options, Print, SelectOptions, has_flag, text_of};
+use kc_combine::{Combining, combine_tables};
+use kc_command::command::{
+    COUNT, DUMP, FILTER, HISTO, INTERSECT, MERGE, PROFILE, QUERY, SELECT, STATS, SUBTRACT,
+};
+use kc_command::{Options, Print, SelectOptions, has_flag, subtract_options, text_of};
 use kc_io::{Sink, Source};
-use kc_report::{Dump, query, write_table};
+use kc_report::{Dump, query};
 use kc_select::{Selection, SelectionCounts, Sides};
 use std::alloc::{AllocError, Global};
 use std::rt::Files;
 use std::sync::Wait;
 use std::thread::Threads;
 
-/// The greatest count with a line of its own of a report that is no histogram, where it does nothing.
+/// The greatest count with a line of its own, for a report that is no histogram and makes no use of it.
 const USUAL_HIGH: u64 = 10_000;
 
 /// The commands of `kcount`.
@@ -81,15 +88,21 @@ pub(crate) enum Verb {
     Stats,
     /// Writes the counts of words from a table.
     Query,
-    /// Writes the sum of two tables.
+    /// Writes the sum of tables.
     Merge,
+    /// Writes the words that every table has.
+    Intersect,
+    /// Writes what is left of the first table without the others.
+    Subtract,
+    /// Writes the words of a table whose counts are within bounds.
+    Filter,
     /// Writes the reads that a table selects.
     Select,
     /// Writes the counts of the words along each read.
     Profile,
 }
 
-/// The command of this name.
+/// The command with this name.
 pub(crate) fn verb_named(name: &str) -> Option<Verb>
     ensures { result ≡ verb_named name.now }
 {
@@ -100,43 +113,46 @@ pub(crate) fn verb_named(name: &str) -> Option<Verb>
         STATS => Some(Verb::Stats),
         QUERY => Some(Verb::Query),
         MERGE => Some(Verb::Merge),
+        INTERSECT => Some(Verb::Intersect),
+        SUBTRACT => Some(Verb::Subtract),
+        FILTER => Some(Verb::Filter),
         SELECT => Some(Verb::Select),
         PROFILE => Some(Verb::Profile),
         _ => None,
     }
 }
 
-/// What a command is to do.
+/// The task of a command.
 #[derive(Drop)]
 pub(crate) enum Task {
-    /// To count the words of sequence reads, and write a report on them.
+    /// Counts the words of sequence reads, and writes a report on them.
     Count(Options),
-    /// To count those words that occur in the reads of a list, which is the first file, and write a report on them.
+    /// Counts those words that occur in the reads of a list, which is the first file, and writes a report on them.
     CountListed(Options),
-    /// To read a table, and write a report on its tally.
+    /// Reads a table, and writes a report on its tally.
     Report(Report),
-    /// To read a table, and write the counts of these words.
+    /// Reads a table, and writes the counts of these words.
     Query(Vec<String>),
-    /// To read two tables, and write the table of both together.
-    Merge,
-    /// To read a table, which is the first file, and write the reads of the others that it selects, or their profiles,
-    /// and whether to print what was counted of the reads.
+    /// Reads tables, and writes the table of their combination.
+    Combine(Combining),
+    /// Reads a table, which is the first file, and writes the reads of the others that it selects, or their profiles;
+    /// the flag is whether to print the numbers of the reads.
     Select(Selection, bool),
-    /// To read a table, which is the first file, and write the pairs of reads of the two others that it selects.
+    /// Reads a table, which is the first file, and writes the pairs of reads of the two others that it selects.
     SelectPairs(Pairing),
 }
 
-/// Runs a command with its options: opens its files, takes the tally that it is about, and writes its answer. Files are
-/// opened in order before anything is read, the file for the output behind them, and at the end all are closed. A text
-/// takes the place of the file that is named for it once it is whole, and two texts do so together. The progress of a
-/// count is reported. It returns what there is to report of what was done. Condition: the options go together.
+/// Runs a command with its options: opens its files, takes its tally, and writes its text. Files are opened in order
+/// before anything is read, then the file for the output, and at the end all are closed. A text takes the place of the
+/// file that is named for it once it is whole, and two texts do so together. The progress of a count is reported. It
+/// returns what there is to report of what was done. Condition: the options don't conflict.
 ///
 /// # Errors
-/// `BadOption` with the first option whose value is outside its limits, before any file is asked for. `OpenFailed` with
-/// the first file that can't be opened, or with that of the output where no text can be put in its place; nothing was
-/// read then. The fault of the sources or of the words. After all these nothing was written. `Write` where the writer
-/// failed or took no byte, or where the text can't be put in the place of the file. The given output has a beginning of
-/// the text then, and a file for the output is as it was.
+/// `BadOption` with the first option with a value outside its limits, before any file is requested. `OpenFailed` with
+/// the first file that can't be opened, or with that of the output if no text can be put in its place; nothing was read
+/// then. The fault of the sources or of the words. After all these nothing was written. `Write` if the writer failed or
+/// took no byte, or if the text can't be put in the place of the file. Then the given output has a beginning of the
+/// text, and a file for the output is unchanged.
 pub(crate) fn run_command<
     H: Threads + Wait + Sync,
     S: Files,
@@ -160,12 +176,12 @@ pub(crate) fn run_command<
     let task = task_of(alloc, verb, matches)?;
     let names = file_names(alloc, verb, matches)?;
     let mut sources = open_files(alloc, files, &names)?;
-    if sources.len() <= own_of(&task) {
+    if sources.len() <= own_file_count(&task) {
         means.progress.input_is_read();
     }
     means
         .progress
-        .sources_have(size_behind(&sources, own_of(&task)));
+        .sources_have(size_behind(&sources, own_file_count(&task)));
     let Some(name) = text_of(matches, "output") else {
         let outcome = answer(means, &task, &mut sources, input, output);
         take_sources(files, sources);
@@ -183,7 +199,7 @@ pub(crate) fn run_command<
     }
 }
 
-// The second output of a command, which a selection alone can have.
+// The second output of a command, which only a selection can have.
 fn second_output<'a>(verb: Verb, matches: &ArgMatches<'a>) -> Option<&'a str>
     ensures { option_map (λ name. name.now) result ≡ second_of verb (rows_of (found_of matches.now)) }
 {
@@ -193,9 +209,9 @@ fn second_output<'a>(verb: Verb, matches: &ArgMatches<'a>) -> Option<&'a str>
     }
 }
 
-// Does a task with files that were opened, or with the given input where no source is a file, and gives the files back.
-// Its text goes to the file of this name. Conditions: the task has such files as it is to have, and a histogram is for
-// counts up to 1 to 10,000,000.
+// Does a task with files that were opened, or with the given input if no source is a file, and gives the files back.
+// Its text goes to the file with this name. Conditions: the task has its files, and the highest count of a histogram is
+// 1 to 10,000,000.
 fn answer_into<H: Threads + Wait + Sync, S: Files, R: Source, P: Progress + Sync>(
     means: &Means<'_, H, P>,
     task: &Task,
@@ -226,8 +242,8 @@ fn answer_into<H: Threads + Wait + Sync, S: Files, R: Source, P: Progress + Sync
     close_output(files, output, work)
 }
 
-// Does a task that writes two texts with files that were opened, and gives the files back. The texts go to the files of
-// these names, both or none. Conditions: the task is such a one, and has such files as it is to have.
+// Does a task that writes two texts, with files that were opened, and gives the files back. The texts go to the files
+// with these names, both or none. Conditions: the task is such a one, and has its files.
 fn answer_apart<H: Threads, S: Files, P: Progress>(
     means: &Means<'_, H, P>,
     task: &Task,
@@ -257,7 +273,7 @@ fn answer_apart<H: Threads, S: Files, P: Progress>(
 }
 
 // Does a task that writes two texts, with its files, which keep their names. Conditions: the task is such a one, and
-// has such files as it is to have.
+// has its files.
 fn write_apart<H: Threads, F: Source, W: Sink, P: Progress>(
     means: &Means<'_, H, P>,
     task: &Task,
@@ -275,11 +291,11 @@ fn write_apart<H: Threads, F: Source, W: Sink, P: Progress>(
         unreachable!()
     };
     let selected = select_pairs(means, &Apart, pairing, files, outputs);
-    told_of(selected, pairing.selection, pairing.tells)
+    told_of_selection(selected, pairing.selection, pairing.tells)
 }
 
-// Does a task with its files, which keep their names: it takes what the task is about, and writes its answer. How far a
-// count has come is told.
+// Does a task with its files, which keep their names: it takes its tally or reads, and writes its text. The progress of
+// a count is reported.
 fn answer<H: Threads + Wait + Sync, R: Source, F: Source, W: Sink, P: Progress + Sync>(
     means: &Means<'_, H, P>,
     task: &Task,
@@ -309,7 +325,7 @@ fn answer<H: Threads + Wait + Sync, R: Source, F: Source, W: Sink, P: Progress +
     }
 }
 
-// Does so where the task takes its sources one after the other. Condition: it does.
+// The same if the task takes its sources one after another. Condition: it does.
 fn answer_of_sources<H: Threads + Wait + Sync, R: Source, F: Source, W: Sink, P: Progress + Sync>(
     means: &Means<'_, H, P>,
     task: &Task,
@@ -327,14 +343,14 @@ fn answer_of_sources<H: Threads + Wait + Sync, R: Source, F: Source, W: Sink, P:
     ensures input { KeepsInput (sources_in task.now (seen_of F.seen files.old)) (R.seen input.old) (R.seen input.new) }
     ensures names { names_of files.new ≡ names_of files.old }
 {
-    let own = own_of(task);
+    let own = own_file_count(task);
     let mut sources = GivenSources { files, input, own };
     match task {
         Task::Count(options) => count_words(means, options, &mut sources, output),
         Task::CountListed(options) => count_listed(means, options, &mut sources, output),
         Task::Report(report) => report_table(means, *report, &mut sources, output),
         Task::Query(words) => query_table(means, words, &mut sources, output),
-        Task::Merge => write_sum(means, &mut sources, output),
+        Task::Combine(combining) => write_combination(means, *combining, &mut sources, output),
         Task::Select(selection, tells) => {
             select_by_table(means, *selection, *tells, &mut sources, output)
         }
@@ -342,8 +358,8 @@ fn answer_of_sources<H: Threads + Wait + Sync, R: Source, F: Source, W: Sink, P:
     }
 }
 
-// How many of the files of a task come before its sources: its list, or the table of a selection.
-fn own_of(task: &Task) -> usize
+// How many of a task's files come before its sources: its list, or the table of a selection.
+fn own_file_count(task: &Task) -> usize
     ensures { result ≡ own_of task.now }
 {
     match task {
@@ -365,11 +381,11 @@ fn count_words<H: Threads + Wait + Sync, R: Source, F: Source, W: Sink, P: Progr
         result }
     ensures kept { Keeps R.seen F.seen sources.old sources.new }
 {
-    counted(report_given(means, options, None, sources, output))
+    told_of_count(report_given(means, options, None, sources, output))
 }
 
-// Counts those words of the sources that occur in the first file, and writes the report on them. Condition: the first
-// file, and no other, comes before the sources.
+// Counts those words of the sources that occur in the first file, and writes the report on them. Condition: only the
+// first file comes before the sources.
 fn count_listed<H: Threads + Wait + Sync, R: Source, F: Source, W: Sink, P: Progress + Sync>(
     means: &Means<'_, H, P>,
     options: &Options,
@@ -384,11 +400,11 @@ fn count_listed<H: Threads + Wait + Sync, R: Source, F: Source, W: Sink, P: Prog
         result }
     ensures kept { KeepsFiles R.seen F.seen sources.old sources.new }
 {
-    counted(report_listed(means, options, sources, output))
+    told_of_count(report_listed(means, options, sources, output))
 }
 
 // What there is to report of a count.
-fn counted(counted: Result<CountedWords, ToolFault>) -> Result<Told, ToolFault>
+fn told_of_count(counted: Result<CountedWords, ToolFault>) -> Result<Told, ToolFault>
     ensures { result ≡ told_of_count counted }
 {
     match counted {
@@ -397,7 +413,7 @@ fn counted(counted: Result<CountedWords, ToolFault>) -> Result<Told, ToolFault>
     }
 }
 
-// Reads the table of the one source, and writes a report on it. Of a histogram and of statistics no rows are kept.
+// Reads the table of the only source, and writes a report on it. A histogram and statistics keep no rows.
 fn report_table<H: Threads + Sync, R: Source, F: Source, W: Sink, P: Progress>(
     means: &Means<'_, H, P>,
     report: Report,
@@ -429,7 +445,7 @@ fn report_table<H: Threads + Sync, R: Source, F: Source, W: Sink, P: Progress>(
     Ok(Told::Nothing)
 }
 
-// Reads the table of the one source, and writes the counts of these words. No rows of others are kept.
+// Reads the table of the only source, and writes the counts of these words. No rows of others are kept.
 fn query_table<H: Threads, R: Source, F: Source, W: Sink, P: Progress>(
     means: &Means<'_, H, P>,
     words: &Vec<String>,
@@ -444,35 +460,34 @@ fn query_table<H: Threads, R: Source, F: Source, W: Sink, P: Progress>(
     ensures kept { Keeps R.seen F.seen sources.old sources.new }
 {
     means.progress.begins(Stage::Tables);
-    let few = asked_of(means.alloc, sources, words)?;
+    let few = asked_rows(means.alloc, sources, words)?;
     means.progress.begins(Stage::Text);
     query(output, &few, words)?;
     Ok(Told::Nothing)
 }
 
-// Reads the tables of the two sources, and writes their sum.
-fn write_sum<H: Threads, R: Source, F: Source, W: Sink, P: Progress>(
+// Reads the tables of the sources, and writes the table of their combination.
+fn write_combination<H: Threads, R: Source, F: Source, W: Sink, P: Progress>(
     means: &Means<'_, H, P>,
+    combining: Combining,
     sources: &mut GivenSources<'_, '_, '_, R, F>,
     output: &mut W,
 ) -> Result<Told, ToolFault>
-    requires { length (seen_in R.seen F.seen sources.old) ≡ 2 }
-    ensures done { DoesByTally Task.Merge
-        (record { given = given None (seen_in R.seen F.seen sources.old); output = W.seen output.old })
-        (record { given = given None (seen_in R.seen F.seen sources.new); output = W.seen output.new })
-        result }
+    ensures done { Combines combining (seen_in R.seen F.seen sources.old) (seen_in R.seen F.seen sources.new)
+        (W.seen output.old) (W.seen output.new) result }
     ensures kept { Keeps R.seen F.seen sources.old sources.new }
 {
     means.progress.begins(Stage::Tables);
-    let (sum, origin) = sum_of(means.alloc, sources)?;
+    let tables = tables_of(means.alloc, sources)?;
     means.progress.begins(Stage::Text);
-    write_table(output, &sum, origin.as_ref())?;
-    Ok(Told::Counted(CountedWords::of(&sum, None)))
+    match combine_tables(means.alloc, combining, &tables, output) {
+        Ok(totals) => Ok(Told::Counted(CountedWords::of_totals(totals))),
+        Err(fault) => Err(combine_fault(fault)),
+    }
 }
 
-// Reads the table of the first file, and writes the reads of the sources that it selects, or their profiles. It answers
-// what was counted of the reads, and whether that is asked for. Condition: the first file, and no other, comes before
-// the sources.
+// Reads the table of the first file, and writes the reads of the sources that it selects, or their profiles. It returns
+// the numbers of the reads, and whether they are asked for. Condition: only the first file comes before the sources.
 fn select_by_table<H: Threads, R: Source, F: Source, W: Sink, P: Progress>(
     means: &Means<'_, H, P>,
     selection: Selection,
@@ -493,11 +508,11 @@ fn select_by_table<H: Threads, R: Source, F: Source, W: Sink, P: Progress>(
     let (tally, _origin) = table_from(means.alloc, &mut files[0].source, 1)?;
     means.progress.begins(stage_of(selection));
     let selected = select_given(means.alloc, sources, &tally, selection, output);
-    told_of(selected, selection, tells)
+    told_of_selection(selected, selection, tells)
 }
 
 // Reads the table of the first file, and writes the pairs of reads of the two others that it selects, the reads of each
-// pair one behind the other. Condition: there are three files.
+// pair one after the other. Condition: there are three files.
 fn pair_by_table<H: Threads, F: Source, W: Sink, P: Progress>(
     means: &Means<'_, H, P>,
     pairing: &Pairing,
@@ -512,10 +527,10 @@ fn pair_by_table<H: Threads, F: Source, W: Sink, P: Progress>(
     ensures names { names_of files.new.items ≡ names_of files.old.items }
 {
     let selected = select_pairs(means, &Interleaved, pairing, files, output);
-    told_of(selected, pairing.selection, pairing.tells)
+    told_of_selection(selected, pairing.selection, pairing.tells)
 }
 
-// What is shown while a selection goes on.
+// What is shown during a selection.
 fn stage_of(selection: Selection) -> Stage {
     if selection.is_profiled() {
         Stage::Profile
@@ -525,7 +540,7 @@ fn stage_of(selection: Selection) -> Stage {
 }
 
 // What there is to report of a selection.
-fn told_of(
+fn told_of_selection(
     selected: Result<SelectionCounts, ToolFault>,
     selection: Selection,
     tells: bool,
@@ -539,7 +554,7 @@ fn told_of(
     }
 }
 
-// The task of a command: what it asks for with these options.
+// The task of a command with these options.
 fn task_of(alloc: Global, verb: Verb, matches: &ArgMatches<'_>) -> Result<Task, ToolFault>
     ensures asked { IfOk result (AsksForTask verb (rows_of (found_of matches.now))) }
     ensures writable { IfOk result HasWritableReport }
@@ -573,13 +588,16 @@ fn task_of(alloc: Global, verb: Verb, matches: &ArgMatches<'_>) -> Result<Task, 
             let words = texts_of(alloc, matches, "word")?;
             Ok(Task::Query(owned_texts(alloc, &words)?))
         }
-        Verb::Merge => Ok(Task::Merge),
+        Verb::Merge => Ok(Task::Combine(Combining::Merge)),
+        Verb::Intersect => Ok(Task::Combine(intersect_options(matches)?)),
+        Verb::Subtract => Ok(Task::Combine(subtract_options(matches))),
+        Verb::Filter => Ok(Task::Combine(filter_options(matches)?)),
         Verb::Select => selection_task(matches),
         Verb::Profile => Ok(Task::Select(profile_options(matches)?, false)),
     }
 }
 
-// The task of a selection: what it asks for with these options.
+// The task of a selection with these options.
 fn selection_task(matches: &ArgMatches<'_>) -> Result<Task, ToolFault>
     ensures asked { IfOk result (AsksForTask Verb.Select (rows_of (found_of matches.now))) }
     ensures writable { IfOk result HasWritableReport }
@@ -598,8 +616,9 @@ fn selection_task(matches: &ArgMatches<'_>) -> Result<Task, ToolFault>
     }
 }
 
-// The names of the files that a command reads: a count reads its list and all that are named, a selection and a profile
-// their table and all that are named, a sum its two tables, and any other command the first that is named.
+// The names of the files that a command reads: for a count, its list and all files; for a selection and a profile,
+// their table and all files; for a sum, an intersection and a difference, all tables; and for any other command, the
+// first file.
 fn file_names<'a>(
     alloc: Global,
     verb: Verb,
@@ -613,18 +632,16 @@ fn file_names<'a>(
             let files = texts_of(alloc, matches, "file")?;
             match text_of(matches, "only") {
                 None => Ok(files),
-                Some(list) => behind(alloc, list, &files),
+                Some(list) => names_with_first(alloc, list, &files),
             }
         }
         Verb::Select | Verb::Profile => {
             let files = texts_of(alloc, matches, "file")?;
-            behind(alloc, text_of(matches, "table").unwrap_or(""), &files)
+            names_with_first(alloc, text_of(matches, "table").unwrap_or(""), &files)
         }
-        Verb::Merge => {
-            let mut names = Vec::with_capacity(alloc, 2)?;
-            names.push(text_of(matches, "first").unwrap_or(""))?;
-            names.push(text_of(matches, "second").unwrap_or(""))?;
-            Ok(names)
+        Verb::Merge | Verb::Intersect | Verb::Subtract => {
+            let others = texts_of(alloc, matches, "second")?;
+            names_with_first(alloc, text_of(matches, "first").unwrap_or(""), &others)
         }
         _ => {
             let mut names = texts_of(alloc, matches, "file")?;
@@ -634,8 +651,12 @@ fn file_names<'a>(
     }
 }
 
-// The name, and the others behind it.
-fn behind<'a>(alloc: Global, first: &'a str, others: &[&'a str]) -> Result<Vec<&'a str>, AllocError>
+// The name, followed by the others.
+fn names_with_first<'a>(
+    alloc: Global,
+    first: &'a str,
+    others: &[&'a str],
+) -> Result<Vec<&'a str>, AllocError>
     ensures { IfOk result (λ names. map (λ name. name.now) names.items
         ≡ first.entry.now ∷ map (λ name. name.now) others.now) }
 {

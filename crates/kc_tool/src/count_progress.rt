@@ -1,11 +1,11 @@
-//! The progress of a command: who is told about it, as the sources are read and as the workers book, and its text.
+//! The progress of a command: who is notified of it, as the sources are read and as the workers book, and its text.
 ghost use Rattle.std.specs.Prelude.{◌≡◌, ◌≢◌, ◌≤◌, ◌+◌, ◌*◌, ◌/◌, ◌++◌, length, min};
 ghost use Rattle.kc_tool.specs.Progress.{batches_text, percent_text, progress_text};
 
 use kc_report::Block;
 use kc_run::Gate;
 
-/// A part of a command that is shown by its name alone.
+/// A part of a command that is shown only by its name.
 #[derive(Clone, Copy, Debug, PartialEq, Eq)]
 pub enum Stage {
     /// Tables are read.
@@ -18,8 +18,8 @@ pub enum Stage {
     Text,
 }
 
-/// Whoever is told about the progress of a command. It is the gate of the workers too, who report each batch before
-/// they book it and after, and may do so at the same time.
+/// Whoever is notified of the progress of a command. It is also the gate of the workers, who report each batch before
+/// and after they book it, possibly at the same time.
 pub trait Progress: Gate {
     ghost use Rattle.std.specs.Prelude.{Bool};
 
@@ -36,24 +36,24 @@ pub trait Progress: Gate {
     /// Standard input is read from now on.
     fn input_is_read(&self);
 
-    /// The files that are read have so many bytes together. None where that is not known. This is told before they are
+    /// The files that are read have so many bytes together; None if that is not known. This is reported before they are
     /// read.
     fn sources_have(&self, bytes: Option<u64>);
 
     /// So many more bytes of the sources were read.
     fn bytes_read(&self, count: u64);
 
-    /// All sources were read, and so many batches are to be counted.
+    /// All sources were read, and so many batches will be counted.
     fn counting_begins(&self, batches: u64);
 
-    /// This part of the command begins. Its name is shown at once. While the text is written, nothing else is shown,
-    /// and where it goes to standard output, nothing at all.
+    /// This part of the command begins. Its name is shown at once. While the text is written, nothing else is shown;
+    /// nothing at all, if the text goes to standard output.
     fn begins(&self, stage: Stage);
 
-    /// The command is over. What is shown is taken away, and nothing is shown from now on.
+    /// The command is over. What is shown is cleared, and nothing is shown from now on.
     fn ends(&self);
 
-    /// How many tenths of a second have passed since this was made. None where no clock can be read.
+    /// How many tenths of a second have passed since this was made; None if no clock can be read.
     fn tenths_passed(&self) -> Option<u64>;
 }
 
@@ -95,19 +95,19 @@ impl Progress for NoProgress {
     }
 }
 
-// How far a count has come.
+// The progress of a count.
 #[derive(Clone, Copy, Debug)]
 pub(crate) struct Reached {
     pub bytes: u64,
-    // how many bytes there are to read; 0 where that is not known
+    // how many bytes there are to read; 0 if that is not known
     pub size: u64,
     pub counted: u64,
-    // 0 before they are known
+    // 0 before it is known
     pub batches: u64,
     pub seconds: u64,
 }
 
-// Puts the line's text at the end of the block: from the beginning of the line, with the rest of the line emptied.
+// Appends the line's text to the block: from the first column, with the rest of the line cleared.
 pub(crate) fn push_progress(line: &mut Block, reached: &Reached)
     requires room { length line.old ≤ 100 }
     ensures pushed { line.new ≡ line.old ++ progress_text reached.now }
@@ -122,7 +122,7 @@ pub(crate) fn push_progress(line: &mut Block, reached: &Reached)
     line.push(b" s\x1b[K");
 }
 
-// Puts at the end of the line how many percent of the bytes were read, where it is known how many there are.
+// Appends the percentage of the bytes that were read to the line, if their number is known.
 fn push_percent(line: &mut Block, reached: &Reached)
     requires room { length line.old ≤ 200 }
     ensures pushed { line.new ≡ line.old ++ percent_text reached.now }
@@ -136,7 +136,7 @@ fn push_percent(line: &mut Block, reached: &Reached)
     line.push(b"%)");
 }
 
-// How many percent of the size these bytes are, rounded down, and 100 where they are more.
+// The percentage of the size that these bytes are, rounded down, and 100 if they are more.
 fn percent_of(bytes: u64, size: u64) -> u64
     requires { size ≢ 0 }
     ensures { result ≡ min 100 (bytes * 100 / size) }
@@ -145,8 +145,8 @@ fn percent_of(bytes: u64, size: u64) -> u64
     percent.min(100) as u64
 }
 
-// Puts at the end of the line how many of the batches were counted, once it is known how many there are, and that
-// gathering is under way when all were.
+// Appends how many of the batches were counted to the line, once their number is known, and that gathering is under way
+// after all were.
 fn push_batches(line: &mut Block, reached: &Reached)
     requires room { length line.old ≤ 300 }
     ensures pushed { line.new ≡ line.old ++ batches_text reached.now }

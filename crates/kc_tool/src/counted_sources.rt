@@ -1,6 +1,6 @@
-//! The tally of the reads of all sources: they are read, cleaned and cut into batches, and the words of the batches are
-//! counted by as many threads as are asked for, all of them or those of a list. The caller decides whether the tally is
-//! wanted, or no more than its histogram or its statistics.
+//! The tally of the reads of all sources: they are read, cleaned and cut into batches, and as many threads as are asked
+//! for count the words of the batches, all of them or those of a list. The caller decides whether the tally is wanted,
+//! or only its histogram or its statistics.
 ghost use Rattle.std.specs.Prelude.{◌≡◌, ◌≤◌, ◌<◌, ◌+◌, ◌^◌, length, IfOk, IfErr, IfSome, OnOk};
 ghost use Rattle.kc_fastx.specs.Parsing.{most_bytes};
 ghost use Rattle.kc_word.specs.Shared.{values};
@@ -41,7 +41,7 @@ use std::sync::{Arc, Wait};
 use std::thread::Threads;
 
 /// The most bytes that the sources of one count may have together, and that its list may have.
-pub const MOST_BYTES: u64 = 1 << 36;
+pub const MAX_BYTES: u64 = 1 << 36;
 
 /// A long list enlarges batches to this many positions for each of its words, up to `LISTED_POSITIONS`.
 const POSITIONS_A_WORD: u64 = 4;
@@ -55,7 +55,7 @@ const SEED: u64 = 1;
 /// The list of the words that occur in the reads of this source, under the rule of the count.
 ///
 /// # Errors
-/// `Fastx` with the fault of the source, whose number is 0. `Memory` where a growth was refused behind the reading.
+/// `Fastx` with the fault of the source, whose number is 0. `Memory` if a growth was refused after the reading.
 pub(crate) fn read_list<R: Source>(
     alloc: Global,
     source: &mut R,
@@ -64,32 +64,31 @@ pub(crate) fn read_list<R: Source>(
     ensures list { IfOk result (GivesWords rule.now (R.seen source.old) (R.seen source.new)) }
     ensures fault { IfErr result (RefusesList (R.seen source.old) (R.seen source.new)) }
 {
-    match read_all(alloc, source, MOST_BYTES) {
+    match read_all(alloc, source, MAX_BYTES) {
         Ok((reads, _count)) => Ok(Only::of(alloc, &reads, rule)?),
         Err(fault) => Err(ToolFault::Fastx { source: 0, fault }),
     }
 }
 
-/// With what a command works: threads of the runtime, this memory, and who is told about the progress.
+/// What a command works with: threads of the runtime, this memory, and who is notified of the progress.
 #[derive(Drop)]
 pub(crate) struct Means<'a, H: Threads, P: Progress> {
     /// The runtime.
     pub rt: &'a H,
     /// The memory.
     pub alloc: Global,
-    /// Who is told.
+    /// Who is notified.
     pub progress: &'a P,
 }
 
-/// Counts the words of the reads of the sources, in order, as the options ask, or those of the list alone, by as many
-/// threads as are asked for. It answers what the caller wants of their tally, and its origin. How many bytes each read
-/// gave is told, how many batches there are, and each that was booked. Condition: the list is one under the rule of the
-/// options.
+/// Counts the words of the reads of the sources, in order, as the options ask, or only those of the list, with as many
+/// threads as are asked for. It returns the summary of their tally that the caller wants, and its origin. It reports
+/// how many bytes each read gave, how many batches there are, and each that was booked. Condition: the list fits the
+/// rule of the options.
 ///
 /// # Errors
-/// `Fastx` with the fault of the first source that has one, and its number from 1; the sources behind it are as they
-/// were. `Run` where a thread, a place in a table or memory for them was refused. `Memory` where a growth was refused
-/// elsewhere.
+/// `Fastx` with the fault of the first source that has one, and its number from 1; the sources after it are unchanged.
+/// `Run` if a thread, a place in a table or memory for them was refused. `Memory` if a growth was refused elsewhere.
 pub(crate) fn count_given<
     S: Reported,
     H: Threads + Wait + Sync,
@@ -136,9 +135,9 @@ pub(crate) fn reader_lacks_memory(fault: &ToolFault) -> bool
     }
 }
 
-// The batches of the reads of the sources, in order, and what is reported of a count of them. They have as many
-// positions as the options ask, and more where a list is long: each booking of a batch compares the lists, and so this
-// takes little time beside counting. A fault is one of `cut_given`.
+// The batches of the reads of the sources, in order, and the origin of a count of them. They have as many positions as
+// the options ask for, and more if a list is long: each booking of a batch compares the lists, and so this takes little
+// time compared with counting. A fault is one of `cut_given`.
 fn batches_given<R: Source, F: Source, P: Progress>(
     alloc: Global,
     list: &Option<Only>,
@@ -169,7 +168,7 @@ fn batches_given<R: Source, F: Source, P: Progress>(
     };
     let (cutting, reads) = cut_given(&cutter, sources, size)?;
     let batches = cutting.finish(alloc)?;
-    // for the proof: what is known of a length
+    // for the proof: facts about a length
     let _bases = rule.k().get();
     let origin = Origin {
         floor: rule.floor(),
@@ -180,9 +179,9 @@ fn batches_given<R: Source, F: Source, P: Progress>(
 }
 
 // The cutting of the reads of the sources, in order, into batches of `size` positions, and how many reads there are.
-// Each source is read whole before the next one, and each read is cleaned and cut before the next one is read, so that
+// Each source is read whole before the next one, and each read is cleaned and cut before the next one is read, so only
 // the text of one read is in memory at a time. A fault is that of the first source that has one, with its number from
-// 1, or `Memory` where a growth was refused outside the reading. Condition: the size is at least 1.
+// 1, or `Memory` if a growth was refused outside the reading. Condition: the size is at least 1.
 fn cut_given<R: Source, F: Source, P: Progress>(
     cutter: &Cutter<'_, P>,
     sources: &mut GivenSources<'_, '_, '_, R, F>,
@@ -197,7 +196,7 @@ fn cut_given<R: Source, F: Source, P: Progress>(
 {
     let mut cut = ReadsInCutting {
         cutting: Cutting::new(cutter.alloc, cutter.rule.k(), size),
-        left: MOST_BYTES,
+        left: MAX_BYTES,
         sources: 0,
         reads: 0,
     };
@@ -207,7 +206,7 @@ fn cut_given<R: Source, F: Source, P: Progress>(
     Ok((cut.cutting, cut.reads))
 }
 
-// How sources are read for a cutting: with this memory, under this rule; and who is told of the bytes that come.
+// How sources are read for a cutting: with this memory, under this rule; and who is notified of the bytes that come.
 #[derive(Drop)]
 struct Cutter<'a, P: Progress> {
     alloc: Global,
@@ -233,11 +232,11 @@ impl<P: Progress> ReadsSource<ReadsInCutting> for Cutter<'_, P> {
     }
 }
 
-// A cutting of the reads of the sources that were read so far, and how many they were.
+// A cutting of the reads of the sources that were read so far, and how many there were.
 #[derive(Drop)]
 struct ReadsInCutting {
     cutting: Cutting,
-    // how many bytes the sources behind them may give
+    // how many bytes the sources after them may give
     left: u64,
     // how many sources were read
     sources: u64,
@@ -246,9 +245,9 @@ struct ReadsInCutting {
 }
 
 impl ReadsInCutting {
-    // Reads the next source whole, and cuts the pieces of its reads behind those that were cut. It tells of the bytes
-    // that came, read by read. A fault is that of the source, with its number, and one of the lines is answered only
-    // after the rest was read.
+    // Reads the next source whole, and cuts the pieces of its reads after those that were cut. It reports the bytes
+    // that came, read by read. A fault is that of the source, with its number, and a fault of the lines is returned
+    // only after the rest was read.
     fn take<R: Source, P: Progress>(
         &mut self,
         alloc: Global,
@@ -300,8 +299,8 @@ impl ReadsInCutting {
     }
 }
 
-// The setup that the options ask for: how words are divided among the stripes, and which count. Condition: the list is
-// one under the rule of the options.
+// The setup that the options ask for: how words are divided among the stripes, and which count. Condition: the list
+// fits the rule of the options.
 fn setup_of(alloc: Global, list: Option<Only>, options: &Options) -> Result<Setup, AllocError>
     requires { IfSome list (IsListUnder (rule_of options.now)) }
     ensures rule { IfOk result (λ setup. setup.rule ≡ kept_to (words_of list) (rule_of options.now)) }

@@ -1,4 +1,4 @@
-//! The line with what was counted of the reads that a selection judged.
+//! The line with the numbers of the reads that a selection judged.
 ghost use Rattle.std.specs.Prelude.{◌≡◌, ◌≤◌, ◌+◌, ◌++◌, [], codes, decimal, length};
 ghost use Rattle.kc_io.specs.Sinks.{Writes};
 ghost use Rattle.kc_tool.specs.Selections.{counts_line};
@@ -31,7 +31,7 @@ fn push_counts(line: &mut Block, counts: &SelectionCounts)
     push_told(line, counts.solid, b" solid\n");
 }
 
-// Puts a number and what is counted at the end of the line.
+// Appends a number and what is counted to the line.
 fn push_told(line: &mut Block, number: u64, what: &[u8])
     requires room { length line.old ≤ 400 }
     requires brief { length what.now ≤ 20 }

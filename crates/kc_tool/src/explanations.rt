@@ -1,4 +1,4 @@
-//! What a person reads of a fault, behind its line: what was found, where, and what to do.
+//! What a person reads about a fault, after its line: what was found, where, and what to do.
 use crate::commands::Verb;
 use crate::file_kinds::{FileKind, kind_of};
 use crate::file_refusals::Refusal;
@@ -12,7 +12,7 @@ use kc_fastx::FastxFault;
 use kc_run::RunFault;
 use std::alloc::{AllocError, Global};
 
-// What standard input is called.
+// The name of standard input.
 const STANDARD_INPUT: &str = "standard input";
 
 /// What is known of a command that met a fault.
@@ -24,9 +24,9 @@ pub(crate) struct Known<'a, 'm> {
     pub matches: &'a ArgMatches<'m>,
     /// What is known of the files that it read.
     pub looks: &'a Looks,
-    /// Why the system refused a file, where it did.
+    /// Why the system refused a file, if it did.
     pub refusal: Option<Refusal>,
-    /// Why it refused what was written to the output, where it did.
+    /// Why the system refused what was written to the output, if it did.
     pub output_refusal: Option<Refusal>,
 }
 
@@ -37,20 +37,20 @@ pub(crate) fn explanation(
     known: &Known<'_, '_>,
 ) -> Result<String, AllocError> {
     match fault {
-        ToolFault::Fastx { source, fault } => of_reads(alloc, *source, *fault, known),
+        ToolFault::Fastx { source, fault } => explain_reads(alloc, *source, *fault, known),
         ToolFault::BadHeader
         | ToolFault::BadRow(_)
         | ToolFault::BadEnd
         | ToolFault::TableTooLong
         | ToolFault::TableRead
         | ToolFault::BrokenTable(_)
-        | ToolFault::ShortTable(_) => of_table(alloc, fault, known),
-        ToolFault::BadOption(name) => of_option(alloc, *name, known),
-        ToolFault::BadWord(number) => of_word(alloc, *number, known),
-        ToolFault::OpenFailed(name) => of_file(alloc, name.as_str(), known),
-        ToolFault::Unlike => of_unlike(alloc, known),
-        ToolFault::Unpaired(number) => of_pairs(alloc, *number, known),
-        ToolFault::Write => of_output(alloc, known),
+        | ToolFault::ShortTable(_) => explain_table(alloc, fault, known),
+        ToolFault::BadOption(name) => explain_option(alloc, *name, known),
+        ToolFault::BadWord(number) => explain_word(alloc, *number, known),
+        ToolFault::OpenFailed(name) => explain_file(alloc, name.as_str(), known),
+        ToolFault::Unlike => explain_unlike(alloc, known),
+        ToolFault::Unpaired(number) => explain_pairs(alloc, *number, known),
+        ToolFault::Write => explain_output(alloc, known),
         _ => line(alloc, text_of_rest(fault), "", ""),
     }
 }
@@ -59,7 +59,7 @@ pub(crate) fn explanation(
 const READ_FAILED: &str =
     " can't be read: it may be a folder, or a disk or the network may have failed";
 
-// The faults that need no more than a text.
+// The faults that need only a text.
 fn text_of_rest(fault: &ToolFault) -> &'static str {
     match fault {
         ToolFault::Run(RunFault::NoThread(_)) => {
@@ -68,12 +68,12 @@ fn text_of_rest(fault: &ToolFault) -> &'static str {
         ToolFault::Run(RunFault::Full(_)) => {
             "a hash table can't grow further: count parts of the input, and merge their tables"
         }
-        ToolFault::TooLarge => "the counts of both tables together are above 2^62",
+        ToolFault::TooLarge => "a count, or the sum of all counts, would be above 2^62",
         _ => "memory ran out: count parts of the input, and merge their tables",
     }
 }
 
-// The line that these three texts make.
+// The line of these three texts.
 fn line(alloc: Global, first: &str, second: &str, third: &str) -> Result<String, AllocError> {
     let mut text = String::from_str(alloc, "  ")?;
     text.push_str(first)?;
@@ -92,7 +92,7 @@ fn at_line(alloc: Global, name: &str, at: u64, what: &str) -> Result<String, All
     line(alloc, text.as_str(), ": ", what)
 }
 
-// The file of this number, from 1, or standard input.
+// The file with this number, from 1, or standard input.
 fn file_name<'m>(number: u64, matches: &ArgMatches<'m>) -> &'m str {
     let Some(files) = matches.get_strs("file") else {
         return STANDARD_INPUT;
@@ -105,33 +105,44 @@ fn file_name<'m>(number: u64, matches: &ArgMatches<'m>) -> &'m str {
 }
 
 // The file that is given for this option or argument.
-fn named<'m>(id: &str, matches: &ArgMatches<'m>) -> &'m str {
+fn file_argument<'m>(id: &str, matches: &ArgMatches<'m>) -> &'m str {
     match text_of(matches, id) {
         Some(name) => name,
         None => STANDARD_INPUT,
     }
 }
 
-// The name of the source of this number: the list is number 0.
+// The name of the source with this number: the list is number 0.
 fn source_name<'m>(source: u64, matches: &ArgMatches<'m>) -> &'m str {
     if source == 0 {
-        named("only", matches)
+        file_argument("only", matches)
     } else {
         file_name(source, matches)
     }
 }
 
-// The name of the table that a fault is about: of two, the one that was read last.
+// The name of the table that a fault is about: of several, the one that was read last.
 fn table_name<'m>(known: &Known<'_, 'm>) -> &'m str {
     match known.verb {
-        Verb::Merge if known.looks.count > 1 => named("second", known.matches),
-        Verb::Merge => named("first", known.matches),
-        Verb::Select | Verb::Profile => named("table", known.matches),
+        Verb::Merge | Verb::Intersect | Verb::Subtract => last_table_name(known),
+        Verb::Select | Verb::Profile => file_argument("table", known.matches),
         _ => file_name(1, known.matches),
     }
 }
 
-// The kind of what was read last: standard input, where that is its name, or else a file.
+// The name of the last of several tables that was read.
+fn last_table_name<'m>(known: &Known<'_, 'm>) -> &'m str {
+    let others = known.matches.get_strs("second").unwrap_or(&[]);
+    let Some(at) = known.looks.count.checked_sub(2) else {
+        return file_argument("first", known.matches);
+    };
+    match others.get(at) {
+        Some(name) => *name,
+        None => file_argument("first", known.matches),
+    }
+}
+
+// The kind of what was read last: standard input, if that is its name, otherwise a file.
 fn kind_of_last(name: &str, known: &Known<'_, '_>) -> FileKind {
     let look = if name == STANDARD_INPUT {
         &known.looks.input
@@ -147,13 +158,13 @@ fn kind_of_last(name: &str, known: &Known<'_, '_>) -> FileKind {
     }
 }
 
-// Whether this is the first of two files of pairs, and the second one, which is closed behind it, was read as well.
+// Whether this is the first of two files of pairs, and the second one, which is closed after it, was read as well.
 fn is_first_of_pairs(name: &str, known: &Known<'_, '_>) -> bool {
     known.looks.count > 2 && has_flag(known.matches, "pairs") && name == file_name(1, known.matches)
 }
 
 // The fault of a source of reads.
-fn of_reads(
+fn explain_reads(
     alloc: Global,
     source: u64,
     fault: FastxFault,
@@ -161,8 +172,8 @@ fn of_reads(
 ) -> Result<String, AllocError> {
     let name = source_name(source, known.matches);
     match fault {
-        FastxFault::BadStart(at) => of_text(alloc, name, at, BAD_START, known),
-        FastxFault::BadBase(at) => of_text(alloc, name, at, BAD_BASE, known),
+        FastxFault::BadStart(at) => explain_text(alloc, name, at, BAD_START, known),
+        FastxFault::BadBase(at) => explain_text(alloc, name, at, BAD_BASE, known),
         FastxFault::BadQuality(at) => at_line(alloc, name, at, BAD_QUALITY),
         FastxFault::LongQuality(at) => at_line(alloc, name, at, LONG_QUALITY),
         FastxFault::Truncated(at) => at_line(alloc, name, at, TRUNCATED),
@@ -174,8 +185,8 @@ fn of_reads(
     }
 }
 
-// A source that is no text of reads: of what kind it is, or what is wrong with this line.
-fn of_text(
+// A source that is no text of reads: its kind, or what is wrong with this line.
+fn explain_text(
     alloc: Global,
     name: &str,
     at: u64,
@@ -212,8 +223,8 @@ const BROKEN_GZIP: &str = " is damaged gzip, or other bytes follow the gzip: get
 
 const SHORT_GZIP: &str = " is gzip that ends too early: its copy is not whole, get the file again";
 
-// What is printed behind the name of a file of this kind that should be one of reads and has a fault in this line, in
-// front of the name once more.
+// What is printed after the name of a file of this kind that should be one of reads and has a fault in this line,
+// before the name is repeated.
 fn reads_of_kind(kind: FileKind, at: u64) -> Option<(&'static str, &'static str)> {
     match kind {
         FileKind::Gzip if at == 1 => Some((
@@ -251,7 +262,11 @@ fn reads_of_kind(kind: FileKind, at: u64) -> Option<(&'static str, &'static str)
 }
 
 // The fault of a table.
-fn of_table(alloc: Global, fault: &ToolFault, known: &Known<'_, '_>) -> Result<String, AllocError> {
+fn explain_table(
+    alloc: Global,
+    fault: &ToolFault,
+    known: &Known<'_, '_>,
+) -> Result<String, AllocError> {
     let name = table_name(known);
     match fault {
         ToolFault::BadRow(at) => at_line(alloc, name, *at, BAD_ROW),
@@ -269,7 +284,7 @@ const BAD_ROW: &str = "this is no row in its place: a table is read as it was wr
 
 const BAD_END: &str = " lacks its last line, END: it was cut off, or lines were taken out of it";
 
-// What is printed behind the name of a file of this kind that should be a table.
+// What is printed after the name of a file of this kind that should be a table.
 fn header_of_kind(kind: FileKind) -> &'static str {
     match kind {
         FileKind::Empty => " is empty: the count that should have written it has failed",
@@ -285,7 +300,11 @@ fn header_of_kind(kind: FileKind) -> &'static str {
 }
 
 // An option has a value outside its limits, or none.
-fn of_option(alloc: Global, name: OptionName, known: &Known<'_, '_>) -> Result<String, AllocError> {
+fn explain_option(
+    alloc: Global,
+    name: OptionName,
+    known: &Known<'_, '_>,
+) -> Result<String, AllocError> {
     let option = name.text();
     let id = option.strip_prefix("--").unwrap_or("");
     let mut text = String::from_str(alloc, option)?;
@@ -300,7 +319,7 @@ fn of_option(alloc: Global, name: OptionName, known: &Known<'_, '_>) -> Result<S
 }
 
 // An asked word is none of the table's.
-fn of_word(alloc: Global, number: u64, known: &Known<'_, '_>) -> Result<String, AllocError> {
+fn explain_word(alloc: Global, number: u64, known: &Known<'_, '_>) -> Result<String, AllocError> {
     let at = usize::try_from(number.saturating_sub(1)).unwrap_or(usize::MAX);
     let mut text = String::new(alloc);
     if let Some(words) = known.matches.get_strs("word") {
@@ -321,7 +340,7 @@ fn of_word(alloc: Global, number: u64, known: &Known<'_, '_>) -> Result<String, 
     )
 }
 
-// A field of the header of a table that begins so.
+// A field of the header of a table with these first bytes.
 fn header_field(look: &Look, at: usize) -> &str {
     let Ok(text) = std::str::from_utf8(look.bytes()) else {
         return "";
@@ -333,7 +352,7 @@ fn header_field(look: &Look, at: usize) -> &str {
 }
 
 // A file can't be opened.
-fn of_file(alloc: Global, name: &str, known: &Known<'_, '_>) -> Result<String, AllocError> {
+fn explain_file(alloc: Global, name: &str, known: &Known<'_, '_>) -> Result<String, AllocError> {
     let mut text = String::from_str(alloc, name)?;
     text.push_str(" can't be opened: ")?;
     let why = known.refusal.unwrap_or(Refusal::Other);
@@ -361,7 +380,7 @@ fn tip_of_name(name: &str, known: &Known<'_, '_>) -> &'static str {
 }
 
 // The text can't be written.
-fn of_output(alloc: Global, known: &Known<'_, '_>) -> Result<String, AllocError> {
+fn explain_output(alloc: Global, known: &Known<'_, '_>) -> Result<String, AllocError> {
     if text_of(known.matches, "output").is_some() {
         let why = known.refusal.unwrap_or(Refusal::Other);
         let kept = match text_of(known.matches, "output2") {
@@ -377,7 +396,7 @@ fn of_output(alloc: Global, known: &Known<'_, '_>) -> Result<String, AllocError>
 const FILE_IS_KEPT: &str = "; a regular file of -o is as it was";
 
 // The records with this number are no pair.
-fn of_pairs(alloc: Global, number: u64, known: &Known<'_, '_>) -> Result<String, AllocError> {
+fn explain_pairs(alloc: Global, number: u64, known: &Known<'_, '_>) -> Result<String, AllocError> {
     let (first, second) = (file_name(1, known.matches), file_name(2, known.matches));
     let mut text = String::from_str(alloc, first)?;
     text.push_str(" and ")?;
@@ -393,26 +412,40 @@ fn of_pairs(alloc: Global, number: u64, known: &Known<'_, '_>) -> Result<String,
 const UNPAIRED: &str = " do not match, or one file has no such record; \
      pair them first: seqkit pair -1 ";
 
-// Two tables don't match.
-fn of_unlike(alloc: Global, known: &Known<'_, '_>) -> Result<String, AllocError> {
+// Tables don't match.
+fn explain_unlike(alloc: Global, known: &Known<'_, '_>) -> Result<String, AllocError> {
     let (first, second) = (&known.looks.before, &known.looks.last);
-    let mut text = String::from_str(alloc, named("first", known.matches))?;
+    if known.looks.count > 2 {
+        return line(alloc, UNLIKE_TABLES, "", "");
+    }
+    let mut text = String::from_str(alloc, file_argument("first", known.matches))?;
     text.push_str(" and ")?;
-    text.push_str(named("second", known.matches))?;
+    text.push_str(file_argument("second", known.matches))?;
     if kind_of(first.bytes()) != FileKind::Table || kind_of(second.bytes()) != FileKind::Table {
         return line(alloc, text.as_str(), UNLIKE_HEADERS, "");
     }
     if header_field(first, 2) == header_field(second, 2) {
-        return line(alloc, text.as_str(), UNLIKE, "");
+        let why = match known.verb {
+            Verb::Merge => UNLIKE,
+            _ => UNLIKE_STRANDS,
+        };
+        return line(alloc, text.as_str(), why, "");
     }
     text.push_str(" have k-mers of length ")?;
     text.push_str(header_field(first, 2))?;
     line(alloc, text.as_str(), " and ", header_field(second, 2))
 }
 
-// What is said of two tables of which one is compressed.
+// What is printed of two tables of which one is compressed.
 const UNLIKE_HEADERS: &str =
     " were counted in different ways: compare their first lines, of gzip by zcat";
 
 const UNLIKE: &str = " were counted in different ways: with and without -C or --only, or with \
      another --min-qual-char";
+
+// What is printed of two tables of which one counts both strands.
+const UNLIKE_STRANDS: &str = " were counted in different ways: one with -C, and one without";
+
+// What is printed of more than two tables.
+const UNLIKE_TABLES: &str =
+    "the tables were counted in different ways: compare their first lines, by head -n 1";

@@ -1,4 +1,4 @@
-//! The line that a refusal prints.
+//! The line of a fault.
 ghost use Rattle.std.specs.Prelude.{◌≡◌, ◌≤◌, ◌<◌, ◌+◌, ◌++◌, decimal, length, IfErr, OnOk, OnErr};
 ghost use Rattle.kc_io.specs.Sinks.{Writes, Drains, HasBegun};
 ghost use Rattle.kc_tool.specs.declared.tool_faults.ToolFault.TheVariants.{Write};
@@ -11,10 +11,10 @@ use kc_io::{Failed, Sink, write_all, write_out};
 use kc_report::{BLOCK_SIZE, Block};
 use kc_run::RunFault;
 
-/// Writes the line of a refusal. It takes no memory.
+/// Writes the line of a fault. It takes no memory.
 ///
 /// # Errors
-/// `Write` where the writer failed or took no byte. A beginning of the line was written.
+/// `Write` if the writer failed or took no byte. A beginning of the line was written.
 pub fn write_fault<W: Sink>(writer: &mut W, fault: &ToolFault) -> Result<(), ToolFault>
     ensures written { Writes (W.seen writer.old) (W.seen writer.new) result (fault_line fault.now) }
     ensures fault { IfErr result (λ fault. fault ≡ Write) }
@@ -22,7 +22,7 @@ pub fn write_fault<W: Sink>(writer: &mut W, fault: &ToolFault) -> Result<(), Too
     Ok(write_line(writer, fault)?)
 }
 
-// Writes the line of a refusal.
+// Writes the line of a fault.
 fn write_line<W: Sink>(writer: &mut W, fault: &ToolFault) -> Result<(), Failed>
     ensures { Writes (W.seen writer.old) (W.seen writer.new) result (fault_line fault.now) }
 {
@@ -34,8 +34,8 @@ fn write_line<W: Sink>(writer: &mut W, fault: &ToolFault) -> Result<(), Failed>
     write_out(writer, line.as_slice())
 }
 
-// Puts a text of any length behind the block, and leaves room for a byte. If it doesn't fit, the block and then the
-// text go to the writer.
+// Appends a text of any length to the block, and leaves room for a byte. If it doesn't fit, the block and then the text
+// go to the writer.
 fn put_text<W: Sink>(writer: &mut W, block: &mut Block, text: &[u8]) -> Result<(), Failed>
     requires { length block.old < BLOCK_SIZE }
     ensures ok { OnOk result (Drains (W.seen writer.old) (W.seen writer.new) (block.old ++ text.now) block.new) }
@@ -51,7 +51,7 @@ fn put_text<W: Sink>(writer: &mut W, block: &mut Block, text: &[u8]) -> Result<(
     write_all(writer, text)
 }
 
-// The name of the file at the end of the refusal.
+// The name of the file at the end of the fault's line.
 fn name_of(fault: &ToolFault) -> &str
     ensures { result.now ≡ fault_name fault.now }
 {
@@ -61,7 +61,7 @@ fn name_of(fault: &ToolFault) -> &str
     }
 }
 
-// Puts the refusal's number and text at the end of the line, but for the name of a file.
+// Appends the fault's number and text to the line, without the name of a file.
 fn push_front(line: &mut Block, fault: &ToolFault)
     requires room { length line.old ≤ 100 }
     ensures pushed { line.new ≡ line.old ++ fault_front fault.now }
@@ -93,7 +93,7 @@ fn push_front(line: &mut Block, fault: &ToolFault)
     }
 }
 
-// Puts the number and the words of a refused run at the end of the line.
+// Appends the number and the text of a run's fault to the line.
 fn push_run_fault(line: &mut Block, fault: RunFault)
     requires room { length line.old ≤ 100 }
     ensures pushed { line.new ≡ line.old ++ run_text fault }
@@ -110,7 +110,7 @@ fn push_run_fault(line: &mut Block, fault: RunFault)
     }
 }
 
-// Puts the words of a refusal that ends with a number, and the number, at the end of the line.
+// Appends the text of a fault that ends with a number, and the number, to the line.
 fn push_numbered(line: &mut Block, what: &[u8], number: u64)
     requires room { length line.old ≤ 100 }
     requires brief { length what.now ≤ 30 }
@@ -121,7 +121,7 @@ fn push_numbered(line: &mut Block, what: &[u8], number: u64)
     line.push_number(number);
 }
 
-// Puts the number and the words of a reader's refusal at the end of the line.
+// Appends the number and the text of a reader's fault to the line.
 fn push_reader_fault(line: &mut Block, source: u64, fault: FastxFault)
     requires room { length line.old ≤ 100 }
     ensures pushed { line.new ≡ line.old ++ reader_text source fault }
@@ -141,7 +141,7 @@ fn push_reader_fault(line: &mut Block, source: u64, fault: FastxFault)
     }
 }
 
-// Puts the words of a refusal and the number of its source at the end of the line.
+// Appends the text of a fault and the number of its source to the line.
 fn push_source(line: &mut Block, what: &[u8], source: u64)
     requires room { length line.old ≤ 100 }
     requires brief { length what.now ≤ 20 }
@@ -153,7 +153,7 @@ fn push_source(line: &mut Block, what: &[u8], source: u64)
     line.push_number(source);
 }
 
-// Puts the words of a refusal, the number of its source and its line at the end of the line.
+// Appends the text of a fault, the number of its source and its line to the line.
 fn push_at_line(line: &mut Block, what: &[u8], source: u64, at: u64)
     requires room { length line.old ≤ 100 }
     requires brief { length what.now ≤ 20 }

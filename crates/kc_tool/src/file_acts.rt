@@ -1,19 +1,19 @@
-//! What is asked of files.
+//! Requests to files.
 
-/// What was asked of the files, and whether it could be had.
+/// A request to the files, and whether it succeeded.
 #[derive(Clone, Copy, Debug, PartialEq, Eq)]
 pub enum FileAct {
-    /// A file was opened, to be read.
+    /// A file was opened for reading.
     Opened,
     /// A file could not be opened.
     NotOpened,
-    /// A file that was opened to be read was closed.
+    /// A file that was opened for reading was closed.
     Read,
-    /// A regular file was opened to be written, as it was, or was made, empty, where there was none.
+    /// A regular file was opened for writing, with its contents, or was made, empty, if there was none.
     Created,
-    /// A device, a pipe or a terminal was opened to be written.
+    /// A device, a pipe or a terminal was opened for writing.
     Reached,
-    /// A file could not be opened to be written, or could not be made.
+    /// A file could not be opened for writing, or could not be made.
     NotCreated,
     /// The links of a path were followed, to the path of the file itself.
     Followed,
@@ -21,13 +21,13 @@ pub enum FileAct {
     NotFollowed,
     /// A new file was made, empty.
     Made,
-    /// No new file was made, since there is one of its name.
+    /// No new file was made, since one with its name exists.
     Taken,
     /// A new file could not be made.
     NotMade,
-    /// A file that was opened to be written, or was made, was closed.
+    /// A file that was opened for writing, or was made, was closed.
     Wrote,
-    /// A file was renamed to another path, in place of the file there.
+    /// A file was renamed to another path, where it replaced the file.
     Renamed,
     /// A file could not be renamed.
     NotRenamed,

@@ -1,4 +1,4 @@
-//! What kind of file it is, as its first bytes show.
+//! The kinds of files, by their first bytes.
 
 /// A kind of file.
 #[derive(Clone, Copy, Debug, PartialEq, Eq)]
@@ -17,7 +17,7 @@ pub(crate) enum FileKind {
     Zstd,
     /// CRAM.
     Cram,
-    /// Text with a byte order mark in front.
+    /// Text that begins with a byte order mark.
     Marked,
     /// SAM, or another text of columns.
     Sam,
@@ -31,7 +31,7 @@ pub(crate) enum FileKind {
     Unknown,
 }
 
-/// What these bytes are the first of.
+/// The kind of a file with these first bytes.
 pub(crate) fn kind_of(bytes: &[u8]) -> FileKind {
     if bytes.is_empty() {
         return FileKind::Empty;

@@ -1,7 +1,7 @@
 //! Why the system refuses a file, or what is written.
 use std::io::ErrorKind;
 
-/// Why a file can't be opened, made or renamed, or a text not be written, as far as that shows what to do.
+/// Why a file can't be opened, made or renamed, or a text can't be written, as far as that helps a person.
 #[derive(Clone, Copy, Debug, PartialEq, Eq)]
 pub enum Refusal {
     /// There is no such file, or no such folder.
@@ -12,11 +12,11 @@ pub enum Refusal {
     IsFolder,
     /// A part of the path is no folder.
     NoFolder,
-    /// The name is too long, or has bytes that no name has.
+    /// The name is too long, or has bytes that no name can have.
     BadName,
-    /// The disk, or the share of it, is full.
+    /// The disk, or a quota on it, is full.
     Full,
-    /// The file system can't be written.
+    /// The file system is read-only.
     ReadOnly,
     /// The program that read a pipe has ended.
     Gone,
@@ -24,7 +24,7 @@ pub enum Refusal {
     Other,
 }
 
-/// The refusal that an error of std of this kind is.
+/// The reason for an error of std of this kind.
 pub(crate) fn refusal_of(error: ErrorKind) -> Refusal {
     match error {
         ErrorKind::NotFound => Refusal::Missing,

@@ -1,8 +1,8 @@
 //! The files that a command line names.
 //!
-//! No contract says what a file contains, or what the system does. So what is here of a runtime is to be read by eye:
-//! each method of `NamedFiles` makes one call, with the name that the log keeps, or looks up besides how large the file
-//! is or what permissions it has, and nothing else asks anything of files.
+//! No contract states what a file contains, or what the system does. So the calls to a runtime here have to be reviewed
+//! by eye: each method of `NamedFiles` makes one call, with the name that the log keeps, or also looks up how large the
+//! file is or what permissions it has, and nothing else requests anything of files.
 ghost use Rattle.std.specs.Prelude.{◌≡◌, List, [], ◌∷◌, ◌++◌, IfErr, IfOk, IfSome, MatchOption, map, string_bytes};
 ghost use Rattle.std.specs.Prelude.{if◌then◌else◌};
 ghost use Rattle.kc_io.specs.History.{no_history};
@@ -33,12 +33,12 @@ pub(crate) struct FileSource<F: Read> {
     stream: FromRead<F>,
     heard: Heard,
     look: Look,
-    // how many bytes it has, where it is a regular file
+    // how many bytes it has, if it is a regular file
     size: Option<u64>,
 }
 
 impl<F: Read> FileSource<F> {
-    // A file of this size, of which nothing was read.
+    // A file of this size, before any read.
     fn new(size: Option<u64>, file: F) -> FileSource<F>
         ensures { result.history ≡ no_history }
     {
@@ -59,7 +59,7 @@ impl<F: Read> Model for FileSource<F> {
 
     ghost view = { λ f. f.stream.seen };
 
-    // what goes into the log is what the stream answered
+    // the log gets what the stream answered
     ghost invariant = { λ f. f.heard.history ≡ f.stream.seen.history };
 }
 
@@ -68,7 +68,7 @@ impl<F: Read> Source for FileSource<F> {
 
     fn read(&mut self, buffer: &mut [u8]) -> Result<usize, Failed> {
         let answer = self.stream.read(buffer);
-        self.heard = self.heard.and(&answer, buffer);
+        self.heard = self.heard.with_answer(&answer, buffer);
         self.look.note(&answer, buffer);
         answer
     }
@@ -82,19 +82,19 @@ pub(crate) struct NamedSink<F: Write> {
     pub sink: FileSink<F>,
 }
 
-/// A file that was opened to be written, as it was.
+/// A file that was opened for writing, with its contents.
 #[derive(Drop)]
 pub(crate) struct OpenedSink<F: Write> {
     /// The file, with its name.
     pub file: NamedSink<F>,
-    /// Its permissions, where it is a regular file.
+    /// Its permissions, if it is a regular file.
     pub permissions: Option<Permissions>,
 }
 
 /// Why a new file was not made.
 #[derive(Clone, Copy, Debug, PartialEq, Eq)]
 pub(crate) enum NotMade {
-    /// There is a file of its name.
+    /// A file with its name exists.
     Taken,
     /// It could not be made.
     Refused,
@@ -115,7 +115,7 @@ impl<F: Write> Model for FileSink<F> {
 
     ghost view = { λ f. f.stream.seen };
 
-    // what goes into the log is what the stream answered
+    // the log gets what the stream answered
     ghost invariant = { λ f. f.heard.history ≡ f.stream.seen.history };
 }
 
@@ -123,24 +123,24 @@ impl<F: Write> Sink for FileSink<F> {
     ghost seen = { λ f. f };
 
     fn write(&mut self, bytes: &[u8]) -> Result<usize, Failed> {
-        // to take none of a text that has bytes is to fail
+        // it fails if it takes no byte of a text that has bytes
         let answer = match self.stream.write(bytes) {
             Ok(0) if !bytes.is_empty() => Err(Failed),
             Ok(n) => Ok(n),
             Err(Failed) => Err(Failed),
         };
-        self.heard = self.heard.and(&answer, bytes);
+        self.heard = self.heard.with_answer(&answer, bytes);
         answer
     }
 
     fn flush(&mut self) -> Result<(), Failed> {
         let answer = self.stream.flush();
-        self.heard = self.heard.and_flush(&answer);
+        self.heard = self.heard.with_flush(&answer);
         answer
     }
 }
 
-/// What was asked of the files so far. Proofs alone see it, and it takes no bytes.
+/// What was requested of the files so far. Only proofs see it, and it takes no bytes.
 #[derive(Drop)]
 pub struct FileLog {
     pub ghost events: { List FileEvent },
@@ -153,37 +153,37 @@ impl Model for FileLog {
 }
 
 impl FileLog {
-    /// Nothing was asked yet.
+    /// The log before the first request.
     pub fn nothing() -> FileLog
         ensures { result.events ≡ [] }
     {
         FileLog {}
     }
 
-    /// The log, and behind it that `act` was done with the file `name`, and with `other` where it is about two paths.
-    /// `heard` is what the file has given or taken when it is closed.
-    pub fn and(&self, act: &FileAct, name: &[u8], other: &[u8], heard: &Heard) -> FileLog
+    /// The log, followed by the request `act` for the file `name`, and for `other` if it is about two paths. `heard` is
+    /// what the file has given or taken when it is closed.
+    pub fn with_event(&self, act: &FileAct, name: &[u8], other: &[u8], heard: &Heard) -> FileLog
         ensures { result.events ≡ self.now.events ++ event act.now name.now other.now heard.now.history ∷ [] }
     {
         FileLog {}
     }
 
-    /// The log, and behind it that `act` was done with the file `name` alone.
-    fn and_act(&self, act: FileAct, name: &str) -> FileLog
+    /// The log, followed by the request `act` for the file `name` alone.
+    fn with_act(&self, act: FileAct, name: &str) -> FileLog
         ensures { result.events ≡ self.now.events ++ event act name.now [] no_history ∷ [] }
     {
-        self.and(&act, name.as_bytes(), b"", &Heard::nothing())
+        self.with_event(&act, name.as_bytes(), b"", &Heard::nothing())
     }
 }
 
-/// Files that are opened and created by their names. Contracts see what was asked of them, in order.
+/// Files that are opened and created by their names. Contracts see the requests to them, in order.
 #[derive(Drop)]
 pub struct NamedFiles<'a, H: Files> {
     rt: &'a H,
     log: FileLog,
     looks: Looks,
     notes: Option<&'a StreamNotes>,
-    // why a file could not be opened, made, written or renamed, the last that could not
+    // the reason of the last file that could not be opened, made, written or renamed
     refusal: Option<Refusal>,
 }
 
@@ -197,7 +197,7 @@ impl<'a, H: Files> Model for NamedFiles<'a, H> {
 }
 
 impl<'a, H: Files> NamedFiles<'a, H> {
-    /// The files of a runtime, of which nothing was asked yet.
+    /// The files of a runtime, before any request.
     pub fn new(rt: &'a H) -> NamedFiles<'a, H>
         ensures { result ≡ [] }
     {
@@ -210,8 +210,8 @@ impl<'a, H: Files> NamedFiles<'a, H> {
         }
     }
 
-    /// The same, beside what is remembered of standard input and output.
-    pub fn beside(self, notes: &'a StreamNotes) -> NamedFiles<'a, H>
+    /// The same, with what is remembered of standard input and output.
+    pub fn with_notes(self, notes: &'a StreamNotes) -> NamedFiles<'a, H>
         ensures { result ≡ self.entry }
     {
         NamedFiles {
@@ -232,7 +232,7 @@ impl<'a, H: Files> NamedFiles<'a, H> {
         looks
     }
 
-    /// Why a file could not be opened, made, written or renamed, the last that could not.
+    /// The reason of the last file that could not be opened, made, written or renamed.
     pub(crate) fn refusal(&self) -> Option<Refusal> {
         self.refusal
     }
@@ -242,7 +242,7 @@ impl<'a, H: Files> NamedFiles<'a, H> {
         self.notes?.refusal.get()
     }
 
-    /// Opens the file of this name; None where it can't be opened.
+    /// Opens the file with this name; None if it can't be opened.
     pub(crate) fn open<'n>(&mut self, name: &'n str) -> Option<NamedSource<'n, FileSource<H::File>>>
         ensures asked { MatchOption result (self.new ≡ self.old ++ not_opened name.entry.now ∷ [])
             (λ file. self.new ≡ self.old ++ opened name.entry.now ∷ []) }
@@ -251,20 +251,20 @@ impl<'a, H: Files> NamedFiles<'a, H> {
     {
         match fs::open(self.rt, name) {
             Ok(file) => {
-                self.log = self.log.and_act(FileAct::Opened, name);
+                self.log = self.log.with_act(FileAct::Opened, name);
                 let source = FileSource::new(size_of::<H>(&file), file);
                 Some(NamedSource { name, source })
             }
             Err(error) => {
                 self.refusal = Some(refusal_of(error.kind()));
-                self.log = self.log.and_act(FileAct::NotOpened, name);
+                self.log = self.log.with_act(FileAct::NotOpened, name);
                 None
             }
         }
     }
 
-    /// Opens the file of this name to be written, as it is, and makes it, empty, where there is none. It gives the name
-    /// back where that can't be done.
+    /// Opens the file with this name for writing, with its contents, and makes it, empty, if there is none. It gives
+    /// the name back if that can't be done.
     pub(crate) fn create(&mut self, name: String) -> Result<OpenedSink<H::File>, String>
         ensures created { IfOk result (λ opened. self.new ≡ self.old
             ++ opened_to_write opened.permissions (string_bytes name) ∷ []) }
@@ -279,19 +279,19 @@ impl<'a, H: Files> NamedFiles<'a, H> {
                     Some(_) => FileAct::Created,
                     None => FileAct::Reached,
                 };
-                self.log = self.log.and_act(act, name.as_str());
+                self.log = self.log.with_act(act, name.as_str());
                 let file = NamedSink::new(name, file);
                 Ok(OpenedSink { file, permissions })
             }
             Err(error) => {
                 self.refusal = Some(refusal_of(error.kind()));
-                self.log = self.log.and_act(FileAct::NotCreated, name.as_str());
+                self.log = self.log.with_act(FileAct::NotCreated, name.as_str());
                 Err(name)
             }
         }
     }
 
-    /// Follows the links of this path to that of the file itself; None where that can't be done.
+    /// Follows the links of this path to that of the file itself; None if that can't be done.
     pub(crate) fn follow(&mut self, alloc: Global, name: &str) -> Option<String>
         ensures { MatchOption result (self.new ≡ self.old ++ not_followed name.now ∷ [])
             (λ path. self.new ≡ self.old ++ followed name.now (string_bytes path) ∷ []) }
@@ -301,18 +301,18 @@ impl<'a, H: Files> NamedFiles<'a, H> {
                 let path = path.into_string();
                 let heard = Heard::nothing();
                 let (from, to) = (name.as_bytes(), path.as_bytes());
-                self.log = self.log.and(&FileAct::Followed, from, to, &heard);
+                self.log = self.log.with_event(&FileAct::Followed, from, to, &heard);
                 Some(path)
             }
             Err(error) => {
                 self.refusal = Some(refusal_of(error.kind()));
-                self.log = self.log.and_act(FileAct::NotFollowed, name);
+                self.log = self.log.with_act(FileAct::NotFollowed, name);
                 None
             }
         }
     }
 
-    /// Makes a new file of this name, empty, with these permissions.
+    /// Makes a new file with this name, empty, with these permissions.
     pub(crate) fn make(
         &mut self,
         name: String,
@@ -325,22 +325,22 @@ impl<'a, H: Files> NamedFiles<'a, H> {
     {
         match make_new(self.rt, name.as_str(), permissions) {
             Ok(file) => {
-                self.log = self.log.and_act(FileAct::Made, name.as_str());
+                self.log = self.log.with_act(FileAct::Made, name.as_str());
                 Ok(NamedSink::new(name, file))
             }
             Err(error) if error.kind() == ErrorKind::AlreadyExists => {
-                self.log = self.log.and_act(FileAct::Taken, name.as_str());
+                self.log = self.log.with_act(FileAct::Taken, name.as_str());
                 Err(NotMade::Taken)
             }
             Err(error) => {
                 self.refusal = Some(refusal_of(error.kind()));
-                self.log = self.log.and_act(FileAct::NotMade, name.as_str());
+                self.log = self.log.with_act(FileAct::NotMade, name.as_str());
                 Err(NotMade::Refused)
             }
         }
     }
 
-    /// Renames the file of this name to the path, in place of the file there, and answers whether that was done.
+    /// Renames the file with this name to the path, where it replaces the file, and returns whether that was done.
     pub(crate) fn rename(&mut self, name: &str, path: &str) -> bool
         ensures { self.new ≡ self.old
             ++ (if result then renamed name.now path.now else not_renamed name.now path.now) ∷ [] }
@@ -353,11 +353,13 @@ impl<'a, H: Files> NamedFiles<'a, H> {
             }
         };
         let heard = Heard::nothing();
-        self.log = self.log.and(&act, name.as_bytes(), path.as_bytes(), &heard);
+        self.log = self
+            .log
+            .with_event(&act, name.as_bytes(), path.as_bytes(), &heard);
         done
     }
 
-    /// Removes the file of this name, and answers whether that was done.
+    /// Removes the file with this name, and returns whether that was done.
     pub(crate) fn remove(&mut self, name: &str) -> bool
         ensures { self.new ≡ self.old ++ (if result then removed name.now else not_removed name.now) ∷ [] }
     {
@@ -367,27 +369,31 @@ impl<'a, H: Files> NamedFiles<'a, H> {
         } else {
             FileAct::NotRemoved
         };
-        self.log = self.log.and_act(act, name);
+        self.log = self.log.with_act(act, name);
         done
     }
 
-    /// Closes a file that was opened to be read.
+    /// Closes a file that was opened for reading.
     pub(crate) fn take_source(&mut self, file: NamedSource<'_, FileSource<H::File>>)
         ensures { self.new ≡ self.old ++ read file.entry.name.now file.entry.source.history ∷ [] }
     {
         self.looks.add(&file.source.look);
         let name = file.name.as_bytes();
-        self.log = self.log.and(&FileAct::Read, name, b"", &file.source.heard);
+        self.log = self
+            .log
+            .with_event(&FileAct::Read, name, b"", &file.source.heard);
     }
 
-    /// Closes a file that was opened to be written, or made, and answers its name.
+    /// Closes a file that was opened for writing, or made, and returns its name.
     pub(crate) fn take_sink(&mut self, file: NamedSink<H::File>) -> String
         ensures asked { self.new ≡ self.old ++ wrote (string_bytes file.name) file.sink.history ∷ [] }
         ensures named { string_bytes result ≡ string_bytes file.name }
     {
         let NamedSink { name, sink } = file;
         let heard = &sink.heard;
-        self.log = self.log.and(&FileAct::Wrote, name.as_bytes(), b"", heard);
+        self.log = self
+            .log
+            .with_event(&FileAct::Wrote, name.as_bytes(), b"", heard);
         if let Some(error) = sink.stream.last_error() {
             self.refusal = Some(refusal_of(error));
         }
@@ -396,7 +402,7 @@ impl<'a, H: Files> NamedFiles<'a, H> {
 }
 
 impl<F: Write> NamedSink<F> {
-    // The file of this name, of which nothing was asked.
+    // The file with this name, before any request.
     fn new(name: String, file: F) -> NamedSink<F>
         ensures named { string_bytes result.name ≡ string_bytes name }
         ensures fresh { result.sink.history ≡ no_history }
@@ -409,7 +415,7 @@ impl<F: Write> NamedSink<F> {
         }
     }
 
-    /// The file of this name.
+    /// The file with this name.
     pub(crate) fn from_parts(name: String, sink: FileSink<F>) -> NamedSink<F>
         ensures name { string_bytes result.name ≡ string_bytes name }
         ensures sink { result.sink ≡ sink }
@@ -427,7 +433,7 @@ impl<F: Write> NamedSink<F> {
     }
 }
 
-// How many bytes a file has, where it is a regular one.
+// How many bytes a file has, if it is a regular one.
 fn size_of<H: Files>(file: &H::File) -> Option<u64> {
     match file.metadata() {
         Ok(metadata) if metadata.is_file() => Some(metadata.len()),
@@ -435,8 +441,8 @@ fn size_of<H: Files>(file: &H::File) -> Option<u64> {
     }
 }
 
-/// How many bytes the files behind the first `own` ones have together; None where one is no regular file, and where
-/// there is none.
+/// How many bytes the files after the first `own` ones have together; None if one is no regular file, or if there is
+/// none.
 pub(crate) fn size_behind<F: Read>(
     files: &[NamedSource<'_, FileSource<F>>],
     own: usize,
@@ -449,9 +455,10 @@ pub(crate) fn size_behind<F: Read>(
     all
 }
 
-// Opens a file to be written as it is, and makes it where there is none; with its permissions, if it is a regular file.
+// Opens a file for writing, with its contents, and makes it if there is none; with its permissions, if it is a regular
+// file.
 fn open_to_write<H: Files>(rt: &H, name: &str) -> io::Result<(H::File, Option<Permissions>)> {
-    let file = as_it_is().open(rt, name)?;
+    let file = appending_options().open(rt, name)?;
     let metadata = file.metadata()?;
     if metadata.is_file() {
         Ok((file, Some(metadata.permissions())))
@@ -460,8 +467,8 @@ fn open_to_write<H: Files>(rt: &H, name: &str) -> io::Result<(H::File, Option<Pe
     }
 }
 
-// How a file is opened so that its text is kept, and what is written comes behind it.
-fn as_it_is() -> OpenOptions
+// How a file is opened so that its text is kept, and bytes are appended.
+fn appending_options() -> OpenOptions
     ensures { KeepsText result }
 {
     let mut options = OpenOptions::new();
@@ -469,9 +476,9 @@ fn as_it_is() -> OpenOptions
     options
 }
 
-// Makes a new file with these permissions. Where it can't have them, it is removed.
+// Makes a new file with these permissions. If it can't have them, it is removed.
 fn make_new<H: Files>(rt: &H, name: &str, permissions: &Permissions) -> io::Result<H::File> {
-    let file = anew(permissions).open(rt, name)?;
+    let file = new_file_options(permissions).open(rt, name)?;
     match file.set_permissions(Permissions::from_mode(permissions.mode())) {
         Ok(()) => Ok(file),
         Err(error) => {
@@ -482,7 +489,7 @@ fn make_new<H: Files>(rt: &H, name: &str, permissions: &Permissions) -> io::Resu
 }
 
 // How a file is made that must be new. It has no permissions beyond these.
-fn anew(permissions: &Permissions) -> OpenOptions
+fn new_file_options(permissions: &Permissions) -> OpenOptions
     ensures { MakesAnew result }
 {
     let mut options = OpenOptions::new();
@@ -491,10 +498,10 @@ fn anew(permissions: &Permissions) -> OpenOptions
     options
 }
 
-/// Opens the files of these names, in order. Where one can't be opened, those before it are closed.
+/// Opens the files with these names, in order. If one can't be opened, those before it are closed.
 ///
 /// # Errors
-/// `OpenFailed` with the first name whose file can't be opened. `Memory` where a growth was refused.
+/// `OpenFailed` with the first name whose file can't be opened. `Memory` if a growth was refused.
 pub(crate) fn open_files<'a, H: Files>(
     alloc: Global,
     files: &mut NamedFiles<'_, H>,
@@ -508,7 +515,7 @@ pub(crate) fn open_files<'a, H: Files>(
     for name in names {
         let Some(source) = files.open(*name) else {
             take_sources(files, sources);
-            return Err(open_failed(alloc, *name));
+            return Err(open_fault(alloc, *name));
         };
         let Ok(()) = sources.push(source) else {
             unreachable!()
@@ -529,8 +536,8 @@ pub(crate) fn take_sources<H: Files>(
     }
 }
 
-/// The fault that the file of this name can't be opened or created.
-pub(crate) fn open_failed(alloc: Global, name: &str) -> ToolFault
+/// The fault that the file with this name can't be opened or created.
+pub(crate) fn open_fault(alloc: Global, name: &str) -> ToolFault
     ensures { TellsName name.now result }
 {
     match String::from_str(alloc, name) {

@@ -1,15 +1,18 @@
-//! What the options of a command line ask for, where an option that is refused is a fault of the program.
+//! What the options of a command line ask for; an option that is refused is a fault of the program.
 ghost use Rattle.std.specs.Prelude.{MatchResult, IfOk, Some, None, ◌≡◌, ◌≤◌, ◌^◌};
 ghost use Rattle.clap.specs.Words.{found_of, rows_of};
 ghost use Rattle.kc_command.specs.Arguments.{
   AsksFor,
   AsksForDump,
+  AsksForFilter,
+  AsksForIntersection,
   AsksForPairs,
   AsksForProfile,
   AsksForSelection,
   first_bad,
   first_bad_of_dump,
   first_bad_of_histo,
+  first_bad_of_intersect,
   first_bad_of_profile,
   first_bad_of_select,
   high_of,
@@ -18,6 +21,7 @@ ghost use Rattle.kc_command.specs.declared.option_name.OptionName.{OptionName};
 
 use crate::tool_faults::ToolFault;
 use clap::ArgMatches;
+use kc_combine::Combining;
 use kc_command::{Options, SelectOptions};
 use kc_report::Dump;
 use kc_select::Selection;
@@ -26,8 +30,8 @@ use std::alloc::Global;
 /// What the options of `count` ask for.
 ///
 /// # Errors
-/// `BadOption` with the first option, in the order of the help, whose value is outside its limits, whether it acts or
-/// not. An absent `--mer-len` counts as such.
+/// `BadOption` with the first option, in the order of the help, with a value outside its limits, even if the option has
+/// no effect. A missing `--mer-len` is such an option.
 pub fn options(alloc: Global, matches: &ArgMatches<'_>) -> Result<Options, ToolFault>
     ensures first_bad { MatchResult result (λ o. first_bad (rows_of (found_of matches.now)) ≡ None)
         (λ fault. (name : OptionName) × (first_bad (rows_of (found_of matches.now)) ≡ Some name)
@@ -37,10 +41,10 @@ pub fn options(alloc: Global, matches: &ArgMatches<'_>) -> Result<Options, ToolF
     Ok(kc_command::options(alloc, matches)?)
 }
 
-/// What the options of `dump` ask for. They are options of `count` too. It takes no memory.
+/// What the options of `dump` ask for. `count` has them, too. It takes no memory.
 ///
 /// # Errors
-/// `BadOption` with the first of `--lower-count` and `--upper-count` whose value is not 0 to 2^62.
+/// `BadOption` with the first of `--lower-count` and `--upper-count` with a value that is not 0 to 2^62.
 pub fn dump_options(matches: &ArgMatches<'_>) -> Result<Dump, ToolFault>
     ensures first_bad { MatchResult result (λ d. first_bad_of_dump (rows_of (found_of matches.now)) ≡ None)
         (λ fault. (name : OptionName) × (first_bad_of_dump (rows_of (found_of matches.now)) ≡ Some name)
@@ -51,11 +55,11 @@ pub fn dump_options(matches: &ArgMatches<'_>) -> Result<Dump, ToolFault>
     Ok(kc_command::dump_options(matches)?)
 }
 
-/// The greatest count that has a line of its own in a histogram, as `--high` of `histo` and of `count` asks for. It
-/// takes no memory.
+/// The greatest count with a line of its own in a histogram, as `--high` of `histo` and of `count` asks for. It takes
+/// no memory.
 ///
 /// # Errors
-/// `BadOption` with `--high` where its value is not 1 to 10,000,000.
+/// `BadOption` with `--high` if its value is not 1 to 10,000,000.
 pub fn high_of(matches: &ArgMatches<'_>) -> Result<u64, ToolFault>
     ensures first_bad { MatchResult result (λ h. first_bad_of_histo (rows_of (found_of matches.now)) ≡ None)
         (λ fault. (name : OptionName) × (first_bad_of_histo (rows_of (found_of matches.now)) ≡ Some name)
@@ -69,8 +73,8 @@ pub fn high_of(matches: &ArgMatches<'_>) -> Result<u64, ToolFault>
 /// What the options of `select` ask for. It takes no memory.
 ///
 /// # Errors
-/// `BadOption` with the first of `--min-count`, `--max-count`, `--min-share`, `--min-qual-char` and `--keep` whose
-/// value is outside its limits, whether it acts or not.
+/// `BadOption` with the first of `--min-count`, `--max-count`, `--min-share`, `--min-qual-char` and `--keep` with a
+/// value outside its limits, even if the option has no effect.
 pub fn select_options(matches: &ArgMatches<'_>) -> Result<SelectOptions, ToolFault>
     ensures first_bad { MatchResult result (λ s. first_bad_of_select (rows_of (found_of matches.now)) ≡ None)
         (λ fault. (name : OptionName) × (first_bad_of_select (rows_of (found_of matches.now)) ≡ Some name)
@@ -84,7 +88,7 @@ pub fn select_options(matches: &ArgMatches<'_>) -> Result<SelectOptions, ToolFau
 /// What the options of `profile` ask for. It takes no memory.
 ///
 /// # Errors
-/// `BadOption` with `--min-qual-char` where its value is no character from ! to ~.
+/// `BadOption` with `--min-qual-char` if its value is no character from ! to ~.
 pub fn profile_options(matches: &ArgMatches<'_>) -> Result<Selection, ToolFault>
     ensures first_bad { MatchResult result (λ s. first_bad_of_profile (rows_of (found_of matches.now)) ≡ None)
         (λ fault. (name : OptionName) × (first_bad_of_profile (rows_of (found_of matches.now)) ≡ Some name)
@@ -92,4 +96,30 @@ pub fn profile_options(matches: &ArgMatches<'_>) -> Result<Selection, ToolFault>
     ensures asked { IfOk result (AsksForProfile (rows_of (found_of matches.now))) }
 {
     Ok(kc_command::profile_options(matches)?)
+}
+
+/// What the options of `intersect` ask for. It takes no memory.
+///
+/// # Errors
+/// `BadOption` with `--take` if its value is not `min`, `max`, `sum` or `first`.
+pub(crate) fn intersect_options(matches: &ArgMatches<'_>) -> Result<Combining, ToolFault>
+    ensures first_bad { MatchResult result (λ c. first_bad_of_intersect (rows_of (found_of matches.now)) ≡ None)
+        (λ fault. (name : OptionName) × (first_bad_of_intersect (rows_of (found_of matches.now)) ≡ Some name)
+        × (fault ≡ ToolFault.BadOption name)) }
+    ensures asked { IfOk result (AsksForIntersection (rows_of (found_of matches.now))) }
+{
+    Ok(kc_command::intersect_options(matches)?)
+}
+
+/// What the options of `filter` ask for. It takes no memory.
+///
+/// # Errors
+/// `BadOption` with the first of `--lower-count` and `--upper-count` with a value that is not 0 to 2^62.
+pub(crate) fn filter_options(matches: &ArgMatches<'_>) -> Result<Combining, ToolFault>
+    ensures first_bad { MatchResult result (λ c. first_bad_of_dump (rows_of (found_of matches.now)) ≡ None)
+        (λ fault. (name : OptionName) × (first_bad_of_dump (rows_of (found_of matches.now)) ≡ Some name)
+        × (fault ≡ ToolFault.BadOption name)) }
+    ensures asked { IfOk result (AsksForFilter (rows_of (found_of matches.now))) }
+{
+    Ok(kc_command::filter_options(matches)?)
 }

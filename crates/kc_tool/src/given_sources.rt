@@ -1,4 +1,4 @@
-//! The sources of a task: the files that are named for it or, where there are none, the given input.
+//! The sources of a task: the files that are named for it or, if there are none, the given input.
 ghost use Rattle.std.specs.Prelude.{◌≡◌, ◌<◌, length};
 ghost use Rattle.kc_tool.specs.GivenSources.{Keeps, ReadsAt, seen_in};
 
@@ -6,19 +6,19 @@ use crate::named_sources::NamedSource;
 use crate::tool_faults::ToolFault;
 use kc_io::Source;
 
-/// What is done with one source, of whatever type it is, beside a state of type `T`.
+/// An action on one source, of any type, with a state of type `T`.
 pub(crate) trait ReadsSource<T> {
-    /// What one source gives.
+    /// The result for one source.
     type Gives;
 
     ghost use Rattle.std.specs.Prelude.{Result};
     ghost use Rattle.kc_io.specs.Sources.{Seen};
     ghost use Rattle.kc_tool.specs.declared.tool_faults.ToolFault.{ToolFault};
 
-    // at which states it may be done
+    // in which states it may be done
     ghost can_read: { Self → T → Type 0 };
 
-    // what it does: of the source and of the state there is what was before it, and what is after it
+    // its effect: the source and the state before it, and after it
     ghost reads: { Self → Seen → Seen → T → T → Result Self.Gives ToolFault → Type 0 };
 
     /// Does it with this source.
@@ -31,7 +31,7 @@ pub(crate) trait ReadsSource<T> {
         ensures { reads self.now (R.seen source.old) (R.seen source.new) state.old state.new result };
 }
 
-/// The sources of a task. They are the files behind the first `own` ones or, where there are none, the input.
+/// The sources of a task. They are the files after the first `own` ones or, if there are none, the input.
 #[derive(Drop)]
 pub(crate) struct GivenSources<'a, 'b, 'n, R: Source, F: Source> {
     /// The files of the task.
@@ -50,8 +50,8 @@ impl<R: Source, F: Source> GivenSources<'_, '_, '_, R, F> {
         self.files.len().saturating_sub(self.own).max(1)
     }
 
-    /// Does this with the source at index `i`. The others are as they were, the files keep their names, and the input
-    /// is as it was where it is no source.
+    /// Does the action with the source at index `i`. The others are unchanged, the files keep their names, and the
+    /// input is unchanged if it is no source.
     pub(crate) fn read<T, V: ReadsSource<T>>(
         &mut self,
         i: usize,

@@ -23,7 +23,7 @@ impl<'a, R: Read> Model for InputSource<'a, R> {
 }
 
 impl<'a, R: Read> InputSource<'a, R> {
-    /// A source over this reader, whose first bytes are kept there.
+    /// A source over this reader, whose first bytes are kept in `look`.
     pub(crate) fn new(reader: R, look: &'a InputLook) -> InputSource<'a, R>
         ensures { result ≡ untouched (R.remaining reader) }
     {

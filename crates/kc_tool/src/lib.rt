@@ -1,12 +1,12 @@
 //! The program `kcount`: how often each k-mer (word of length k) occurs in sequence reads.
 //!
 //! `count_reads` goes from sources of bytes to a written report, as `Options` ask. `program` reads a whole command
-//! line, does what it asks for and answers the exit status; `run` does the same over streams that the caller keeps. A
-//! refusal is a `ToolFault`, and `write_fault` writes its line.
+//! line, carries it out and returns the exit status; `run` does the same over streams that the caller keeps. An error
+//! is a `ToolFault`, and `write_fault` writes its line.
 //!
 //! `write_dump`, `write_histo`, `write_stats` and `write_table` write a `Tally`, and `query` the counts of some words;
-//! `read_table` reads what `write_table` writes, with its `Origin`, and `merge` adds two of these;
-//! `report_laws` states what becomes of the tables that `count_reads` wrote.
+//! `read_table` reads what `write_table` writes, with its `Origin`, and `merge` adds two of these; `report_laws`
+//! relates the tables that `count_reads` wrote to their sum.
 //!
 //! ```text
 //! let k = K::new(3).ok_or("a length")?;
@@ -61,7 +61,7 @@ pub use given_options::{dump_options, high_of, options};
 pub use kc_command::{OptionName, Options, Print, command_laws};
 pub use kc_io::{Sink, ToVec, ToWrite};
 pub use kc_report::{
-    Dump, GREATEST_HIGH, Origin, ReportFault, merge, query, read_table, write_dump, write_histo,
+    Dump, MAX_HIGH, Origin, ReportFault, merge, query, read_table, write_dump, write_histo,
     write_stats, write_table,
 };
 pub use kc_run::{Gate, RunFault};

@@ -1,24 +1,24 @@
-//! The first bytes of the files that a command reads, and of standard input, which show of what kind they are. They are
-//! kept for explanations alone.
+//! The first bytes of the files that a command reads, and of standard input, which show their kind. They are kept only
+//! for explanations.
 use kc_io::Failed;
 use std::cell::Cell;
 
 /// How many bytes are kept.
-const MOST_KEPT: usize = 64;
+const MAX_KEPT: usize = 64;
 
 /// The first bytes that a source gave.
 #[derive(Clone, Copy, Debug)]
 pub(crate) struct Look {
-    bytes: [u8; MOST_KEPT],
+    bytes: [u8; MAX_KEPT],
     len: usize,
     was_read: bool,
 }
 
 impl Look {
-    /// Nothing was read yet.
+    /// Before the first read.
     pub fn nothing() -> Look {
         Look {
-            bytes: [0; MOST_KEPT],
+            bytes: [0; MAX_KEPT],
             len: 0,
             was_read: false,
         }
@@ -30,25 +30,25 @@ impl Look {
         let Ok(count) = answer else {
             return;
         };
-        if self.len >= MOST_KEPT {
+        if self.len >= MAX_KEPT {
             return;
         }
         for byte in buffer.iter().take(*count) {
-            if self.len < MOST_KEPT {
+            if self.len < MAX_KEPT {
                 self.bytes[self.len] = *byte;
                 self.len += 1;
             }
         }
     }
 
-    /// Whether it was read at all.
+    /// Whether there was any read.
     pub fn was_read(&self) -> bool {
         self.was_read
     }
 
     /// The bytes.
     pub fn bytes(&self) -> &[u8] {
-        &self.bytes[..self.len.min(MOST_KEPT)]
+        &self.bytes[..self.len.min(MAX_KEPT)]
     }
 }
 
@@ -66,7 +66,7 @@ pub(crate) struct Looks {
 }
 
 impl Looks {
-    /// No file was read.
+    /// Before any file was read.
     pub fn nothing() -> Looks {
         Looks {
             count: 0,
@@ -76,7 +76,7 @@ impl Looks {
         }
     }
 
-    /// One file more was closed, with these first bytes.
+    /// One more file was closed, with these first bytes.
     pub fn add(&mut self, look: &Look) {
         if look.was_read {
             self.count = self.count.saturating_add(1);
@@ -86,14 +86,14 @@ impl Looks {
     }
 }
 
-/// The first bytes of standard input, which its source keeps, and which are looked at when the command has ended.
+/// The first bytes of standard input, which its source keeps, and which are looked at after the command has ended.
 #[derive(Drop)]
 pub(crate) struct InputLook {
     look: Cell<Look>,
 }
 
 impl InputLook {
-    /// Nothing was read yet.
+    /// Before the first read.
     pub fn nothing() -> InputLook {
         InputLook {
             look: Cell::new(Look::nothing()),

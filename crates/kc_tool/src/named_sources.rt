@@ -1,7 +1,7 @@
 //! Sources with the names of the files that they read.
 use kc_io::Source;
 
-/// A source, and the name of the file that it reads; of a source that reads none, an empty name.
+/// A source, and the name of the file that it reads; an empty name if it reads none.
 #[derive(Drop)]
 pub(crate) struct NamedSource<'a, R: Source> {
     /// The name of the file.

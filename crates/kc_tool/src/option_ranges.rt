@@ -1,7 +1,7 @@
-//! The values that an option takes, in words.
+//! The values that an option may have, in words.
 use kc_command::OptionName;
 
-/// Which values an option takes.
+/// Which values an option may have.
 pub(crate) fn range_of(name: OptionName) -> &'static str {
     match name {
         OptionName::MerLen => "the length of the k-mers, a number from 1 to 31",
@@ -13,6 +13,7 @@ pub(crate) fn range_of(name: OptionName) -> &'static str {
         OptionName::MinQualChar =>
             "one character from ! to ~, ASCII 33 to 126, as 5 for a quality of 20",
         OptionName::Keep => "both or any",
+        OptionName::Take => "min, max, sum or first",
         OptionName::Stripes => "1, 2, 4, 8, 16, 32 or 64",
         OptionName::Batch => "a number from 1 to 2^36",
         OptionName::Print => "table, dump, histo or stats",

@@ -1,9 +1,9 @@
-//! Why options don't go together, and tips for options that Jellyfish has, and that are called otherwise here, or are
-//! not needed.
+//! Why arguments conflict, and tips for options of Jellyfish that have another name here, or are not needed.
+use crate::commands::Verb;
 use kc_command::PairsRefusal;
 use std::alloc::{AllocError, Global};
 
-/// The text of a refusal by `clap`, with a tip of our own where we know the option: in place of that of `clap`, which
+/// The text of a refusal by `clap`, with a tip of our own if we know the option: it replaces the tip of `clap`, which
 /// takes an unknown option for a value.
 pub(crate) fn with_tip(
     alloc: Global,
@@ -36,7 +36,7 @@ fn quoted_in(line: &str) -> &str {
     }
 }
 
-// The text behind the tip, where there is one.
+// The text after the tip, if there is one.
 fn without_tip(rest: &str) -> &str {
     let Some(tip) = rest.strip_prefix("\n  tip: ") else {
         return rest;
@@ -55,25 +55,48 @@ fn tip_of(command: &str, argument: &str) -> Option<&'static str> {
             return Some(text);
         }
     }
-    if command == "merge" && !argument.is_empty() && !argument.starts_with('-') {
-        return Some("merge adds two tables at a time");
-    }
     None
 }
 
-/// The text of a refusal of options that don't go together, in the form of those of `clap`.
-pub(crate) fn refusal_text(alloc: Global, refusal: PairsRefusal) -> Result<String, AllocError> {
+/// Why the arguments of a command conflict.
+#[derive(Clone, Copy, Debug, PartialEq, Eq)]
+pub(crate) enum Conflict {
+    /// Options of a selection conflict.
+    Pairs(PairsRefusal),
+    /// More than 64 tables are given.
+    TooManyTables,
+}
+
+/// The text of a refusal of arguments that conflict, in the form of those of `clap`.
+pub(crate) fn conflict_text(
+    alloc: Global,
+    verb: Verb,
+    conflict: Conflict,
+) -> Result<String, AllocError> {
+    let reason = match conflict {
+        Conflict::Pairs(refusal) => refusal_reason(refusal),
+        Conflict::TooManyTables => "at most 64 tables can be combined",
+    };
     let mut text = String::from_str(alloc, "error: ")?;
-    text.push_str(why_apart(refusal))?;
-    text.push_str(
-        "\n\nUsage: kcount select [OPTIONS] <TABLE> [FILE]...\n\n\
-         For more information, try '--help'.\n",
-    )?;
+    text.push_str(reason)?;
+    text.push_str("\n\nUsage: kcount ")?;
+    text.push_str(usage_of(verb))?;
+    text.push_str("\n\nFor more information, try '--help'.\n")?;
     Ok(text)
 }
 
-// Why options don't go together.
-fn why_apart(refusal: PairsRefusal) -> &'static str {
+// How a command with arguments that can conflict is used.
+fn usage_of(verb: Verb) -> &'static str {
+    match verb {
+        Verb::Merge => "merge [OPTIONS] <FIRST> <SECOND>...",
+        Verb::Intersect => "intersect [OPTIONS] <FIRST> <SECOND>...",
+        Verb::Subtract => "subtract [OPTIONS] <FIRST> <SECOND>...",
+        _ => "select [OPTIONS] <TABLE> [FILE]...",
+    }
+}
+
+// Why options conflict.
+fn refusal_reason(refusal: PairsRefusal) -> &'static str {
     match refusal {
         PairsRefusal::KeepAlone => "the argument '--keep <WHICH>' cannot be used without '--pairs'",
         PairsRefusal::Output2Alone => {
@@ -102,7 +125,7 @@ const LINES: &str = "lines of counts that no k-mer has are left out, and the fir
 
 const HEADER: &str = "the first line of a table says how it was counted: head -n 1 TABLE";
 
-// The commands and options of Jellyfish that are missed, and the tip for each.
+// The commands and options of Jellyfish that may be missed, and the tip for each.
 const TIPS: &[(&str, &str, &str)] = &[
     ("count", "-k", "the length of the k-mers is -m"),
     ("count", "-Q", "Jellyfish's -Q is --min-qual-char"),
@@ -161,8 +184,16 @@ const TIPS: &[(&str, &str, &str)] = &[
     ),
     ("query", "-l", "a table is always read whole"),
     ("query", "-L", "a table is always read whole"),
-    ("merge", "-L", "Jellyfish's merge -L is dump -L on the sum"),
-    ("merge", "-U", "Jellyfish's merge -U is dump -U on the sum"),
+    (
+        "merge",
+        "-L",
+        "Jellyfish's merge -L is kcount filter -L on the sum",
+    ),
+    (
+        "merge",
+        "-U",
+        "Jellyfish's merge -U is kcount filter -U on the sum",
+    ),
     ("info", "info", HEADER),
     ("mem", "mem", "-s is for speed alone: the hash tables grow"),
     ("bc", "bc", LEAST),

@@ -1,4 +1,4 @@
-//! Standard output as a sink, which keeps why the system refused what was written.
+//! Standard output as a sink, which keeps the reason why the system refused what was written.
 ghost use Rattle.std.specs.Prelude.{◌≡◌};
 ghost use Rattle.kc_tool.specs.Process.{unwritten};
 
@@ -8,26 +8,26 @@ use std::cell::Cell;
 use std::io::Write;
 use std::marker::Model;
 
-/// Why the last write or flush failed that did, for whoever explains a fault once the command has ended.
+/// Why the last failed write or flush failed, for whoever explains a fault after the command has ended.
 #[derive(Drop)]
 pub(crate) struct RefusalNote {
     refusal: Cell<Option<Refusal>>,
 }
 
 impl RefusalNote {
-    /// No call failed yet.
+    /// Before any call failed.
     pub fn nothing() -> RefusalNote {
         RefusalNote {
             refusal: Cell::new(None),
         }
     }
 
-    /// Why the last call failed that did.
+    /// Why the last failed call failed.
     pub fn get(&self) -> Option<Refusal> {
         self.refusal.get()
     }
 
-    // Keeps why the last call of this stream failed that did.
+    // Keeps why the last failed call of this stream failed.
     fn keep<W: Write>(&self, stream: &ToWrite<W>) {
         self.refusal.set(stream.last_error().map(refusal_of));
     }
@@ -49,7 +49,7 @@ impl<'a, W: Write> Model for OutputSink<'a, W> {
 }
 
 impl<'a, W: Write> OutputSink<'a, W> {
-    /// A sink over this writer, which keeps there why it failed.
+    /// A sink over this writer, which keeps in `note` why it failed.
     pub(crate) fn new(writer: W, note: &'a RefusalNote) -> OutputSink<'a, W>
         ensures { result ≡ unwritten (W.contents writer) }
     {

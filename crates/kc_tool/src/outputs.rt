@@ -8,7 +8,7 @@ ghost use Rattle.kc_tool.specs.Outputs.{ClosesBoth, ClosesOutput, Discards, IsPl
 ghost use Rattle.kc_tool.specs.Outputs.{OpensOutput, beside, is_of_system, target};
 ghost use Rattle.kc_tool.specs.PairSelections.{both};
 
-use crate::files::{FileSink, NamedFiles, NamedSink, NotMade, open_failed};
+use crate::files::{FileSink, NamedFiles, NamedSink, NotMade, open_fault};
 use crate::tool_faults::ToolFault;
 use itoa::Buffer;
 use kc_select::Sides;
@@ -17,24 +17,24 @@ use std::fs::Permissions;
 use std::io::Write;
 use std::rt::Files;
 
-/// How many new files are tried at the most: so many may be left by runs that were killed.
-const MOST_TRIES: u32 = 1000;
+/// How many new files are tried at most: this many may be left by runs that were killed.
+const MAX_TRIES: u32 = 1000;
 
-/// The file that a command writes its text to.
+/// The file to which a command writes its text.
 #[derive(Drop)]
 pub(crate) struct Output<F: Write> {
     /// The file.
     pub file: NamedSink<F>,
-    /// The path that the file is renamed to once the text is whole; None where it is the named file itself.
+    /// The path to which the file is renamed once the text is whole; None if it is the named file itself.
     pub path: Option<String>,
 }
 
-/// Opens the file for a text that is to go to the file of this name. That one is made, empty, where there is none, and
-/// keeps its text. Where it is a regular file, a new one is made beside it, with its permissions.
+/// Opens the file for a text that should go to the file with this name. That file is made, empty, if there is none, and
+/// keeps its text. If it is a regular file, a new one is made beside it, with its permissions.
 ///
 /// # Errors
-/// `OpenFailed` with the name where the file can't be opened to be written, or the new one not be made. `Memory` where
-/// a growth was refused.
+/// `OpenFailed` with the name if the file can't be opened for writing, or the new one can't be made. `Memory` if a
+/// growth was refused.
 pub(crate) fn open_output<H: Files>(
     alloc: Global,
     files: &mut NamedFiles<'_, H>,
@@ -55,7 +55,7 @@ pub(crate) fn open_output<H: Files>(
         Some(permissions) if !is_of_system(name) => {
             files.take_sink(opened.file);
             let Some(path) = files.follow(alloc, name) else {
-                return Err(open_failed(alloc, name));
+                return Err(open_fault(alloc, name));
             };
             open_beside(alloc, files, name, path, &permissions)
         }
@@ -66,7 +66,7 @@ pub(crate) fn open_output<H: Files>(
     }
 }
 
-// Makes a new file beside the one of this path, with these permissions, for a text that is to go to the file `name`.
+// Makes a new file beside the one at this path, with these permissions, for a text that should go to the file `name`.
 fn open_beside<H: Files>(
     alloc: Global,
     files: &mut NamedFiles<'_, H>,
@@ -81,8 +81,8 @@ fn open_beside<H: Files>(
     ensures refused { IfErr result (λ fault. (asked : List FileEvent) × (files.new ≡ files.old ++ asked)
         × FailsBeside name.now (string_bytes path) asked fault) }
 {
-    for tries in 0..MOST_TRIES {
-        let new = beside(alloc, path.as_str(), tries + 1)?;
+    for tries in 0..MAX_TRIES {
+        let new = name_beside(alloc, path.as_str(), tries + 1)?;
         match files.make(new, permissions) {
             Ok(file) => {
                 return Ok(Output {
@@ -91,17 +91,17 @@ fn open_beside<H: Files>(
                 });
             }
             Err(NotMade::Taken) => {}
-            Err(NotMade::Refused) => return Err(open_failed(alloc, name)),
+            Err(NotMade::Refused) => return Err(open_fault(alloc, name)),
         }
     }
-    Err(open_failed(alloc, name))
+    Err(open_fault(alloc, name))
 }
 
-/// Closes the file of a text, when the work that writes it has ended so. A new file is renamed to its path where the
-/// work ended well, and is removed where it did not.
+/// Closes the file of a text at the end of the work that writes it, with this result. A new file is renamed to its path
+/// if the work succeeded, and removed if it did not.
 ///
 /// # Errors
-/// The fault of the work. `Write` where the file can't be renamed.
+/// The fault of the work. `Write` if the file can't be renamed.
 pub(crate) fn close_output<H: Files, T: Drop>(
     files: &mut NamedFiles<'_, H>,
     output: Output<H::File>,
@@ -124,16 +124,16 @@ pub(crate) fn close_output<H: Files, T: Drop>(
     Err(fault)
 }
 
-/// Where a text goes: a file that it is written to, and the path of that which the file is to become.
+/// Where a text goes: the file that it is written to, and the path to which the file is renamed.
 #[derive(Drop)]
 pub(crate) struct Place {
     /// The file's name.
     pub name: String,
-    /// The path that the file is renamed to once the text is whole; None where it is the named file itself.
+    /// The path to which the file is renamed once the text is whole; None if it is the named file itself.
     pub path: Option<String>,
 }
 
-/// The files that a command writes two texts to.
+/// The files to which a command writes two texts.
 #[derive(Drop)]
 pub(crate) struct TwoOutputs<F: Write> {
     /// Where the texts go.
@@ -142,8 +142,8 @@ pub(crate) struct TwoOutputs<F: Write> {
     pub sinks: Sides<FileSink<F>>,
 }
 
-/// Opens the files for two texts that are to go to the files of these names, the first one in front, each as
-/// `open_output` does. Where there is no file for the second one, that for the first one is given up.
+/// Opens the files for two texts that should go to the files with these names, the first one first, each as
+/// `open_output` does. If there is no file for the second one, that for the first one is given up.
 ///
 /// # Errors
 /// Those of `open_output`.
@@ -194,11 +194,11 @@ impl<F: Write> Output<F> {
     }
 }
 
-/// Closes the files of two texts, when the work that writes them has ended so, and then puts the first one in place,
-/// and the second one, where the work ended well. New files that are not put in place are removed.
+/// Closes the files of two texts at the end of the work that writes them, with this result, and then puts the first one
+/// in place, and the second one, if the work succeeded. New files that are not put in place are removed.
 ///
 /// # Errors
-/// The fault of the work. `Write` where a file can't be renamed: if it is the second one, the first one is in place.
+/// The fault of the work. `Write` if a file can't be renamed: if it is the second one, the first one is in place.
 pub(crate) fn close_both<H: Files, T: Drop>(
     files: &mut NamedFiles<'_, H>,
     outputs: TwoOutputs<H::File>,
@@ -246,7 +246,7 @@ fn close_place<H: Files>(
     Place { name, path }
 }
 
-// Removes a new file that is not to be put in place.
+// Removes a new file that is not put in place.
 fn discard<H: Files>(files: &mut NamedFiles<'_, H>, place: &Place)
     ensures { (asked : List FileEvent) × (files.new ≡ files.old ++ asked)
         × Discards (string_bytes place.now.name) (option_map string_bytes place.now.path) asked }
@@ -256,7 +256,7 @@ fn discard<H: Files>(files: &mut NamedFiles<'_, H>, place: &Place)
     }
 }
 
-// Renames a new file to its path, and answers whether that was done. Where it can't be, it is removed.
+// Renames a new file to its path, and returns whether that was done. If it can't be, it is removed.
 fn put_in_place<H: Files>(files: &mut NamedFiles<'_, H>, place: &Place) -> bool
     ensures { (asked : List FileEvent) × (files.new ≡ files.old ++ asked)
         × IsPlaced result (string_bytes place.now.name) (option_map string_bytes place.now.path) asked }
@@ -279,8 +279,8 @@ fn is_of_system(name: &str) -> bool
     name.starts_with(b"/dev/") && !name.starts_with(b"/dev/shm/") || name.starts_with(b"/proc/")
 }
 
-// The name of the new file of this number beside the file of this path.
-fn beside(alloc: Global, path: &str, number: u32) -> Result<String, AllocError>
+// The name of the new file with this number beside the file at this path.
+fn name_beside(alloc: Global, path: &str, number: u32) -> Result<String, AllocError>
     ensures { IfOk result (λ name. string_bytes name ≡ beside path.now number) }
 {
     let mut name = String::from_str(alloc, path)?;

@@ -8,7 +8,7 @@ ghost use Rattle.kc_tool.specs.PairSelections.{counts_of_pairs, pair_fault};
 ghost use Rattle.kc_tool.specs.Tallies.{given};
 
 use crate::count_progress::{Progress, Stage};
-use crate::counted_sources::{MOST_BYTES, Means};
+use crate::counted_sources::{MAX_BYTES, Means};
 use crate::named_sources::NamedSource;
 use crate::pairs_writers::WritesPairs;
 use crate::task_tallies::table_from;
@@ -22,11 +22,11 @@ use std::thread::Threads;
 /// Which pairs are selected.
 #[derive(Clone, Copy, Debug)]
 pub(crate) struct Pairing {
-    /// Which reads are solid, and whether the pairs that would not be selected are.
+    /// Which reads are solid, and whether the selection is inverted.
     pub selection: Selection,
     /// How many reads of a pair have to be solid.
     pub asked: PairRule,
-    /// Whether `--stats` asks for what was counted.
+    /// Whether `--stats` asks for the counts.
     pub tells: bool,
 }
 
@@ -40,13 +40,13 @@ struct PairFiles<'n, F: Source> {
     second: NamedSource<'n, F>,
 }
 
-/// Reads the table of the first file, and writes the pairs of reads of the two behind it that are selected. It counts
+/// Reads the table of the first file, and writes the pairs of reads of the two after it that are selected. It counts
 /// both reads of each pair. Condition: there are three files.
 ///
 /// # Errors
-/// The fault of the table: no pair was read. `Memory` where the selection got no memory, as well. `Fastx` with the
-/// fault of the second file, as source 1, or of the third one, as source 2. `Unpaired` with the number of a record that
-/// has no mate. The selected ones of the pairs before it were written. `Write` where a writer failed or took no byte.
+/// The fault of the table: no pair was read. `Memory` also if the selection got no memory. `Fastx` with the fault of
+/// the second file, as source 1, or of the third one, as source 2. `Unpaired` with the number of a record that has no
+/// mate. The selected pairs before it were written. `Write` if a writer failed or took no byte.
 pub(crate) fn select_pairs<H: Threads, F: Source, W, V: WritesPairs<W>, P: Progress>(
     means: &Means<'_, H, P>,
     how: &V,
@@ -80,7 +80,7 @@ pub(crate) fn select_pairs<H: Threads, F: Source, W, V: WritesPairs<W>, P: Progr
     selected
 }
 
-// Puts three files behind the others. Condition: there is room for them.
+// Appends three files to the others. Condition: there is room for them.
 fn put_back<'n, F: Source>(files: &mut Vec<NamedSource<'n, F>>, three: PairFiles<'n, F>)
     requires { vec_len files.old + 3 ≤ vec_capacity files.old }
     ensures { files.new.items ≡ files.old.items ++ three.entry.table ∷ three.entry.first ∷ three.entry.second ∷ [] }
@@ -95,7 +95,7 @@ fn put_back<'n, F: Source>(files: &mut Vec<NamedSource<'n, F>>, three: PairFiles
     files.push_reserved(second);
 }
 
-// Does so with the three files, which keep their names.
+// The same with the three files, which keep their names.
 fn select_from<H: Threads, F: Source, W, V: WritesPairs<W>, P: Progress>(
     means: &Means<'_, H, P>,
     how: &V,
@@ -118,12 +118,12 @@ fn select_from<H: Threads, F: Source, W, V: WritesPairs<W>, P: Progress>(
     let (tally, _origin) = table_from(means.alloc, &mut files.table.source, 1)?;
     means.progress.begins(Stage::Selection);
     let selector = Selector::new(means.alloc, &tally, pairing.selection)?;
-    let selection = PairSelection::new(&selector, pairing.asked, MOST_BYTES);
+    let selection = PairSelection::new(&selector, pairing.asked, MAX_BYTES);
     let (first, second) = (&mut files.first.source, &mut files.second.source);
     counts_of_pairs(how.select(means.alloc, first, second, output, &selection))
 }
 
-// What was counted of the reads of pairs, or why they were not selected, as the program reports it.
+// The numbers of the reads of pairs, or why they were not selected, as the program reports it.
 fn counts_of_pairs(selected: Result<Selected, PairFault>) -> Result<SelectionCounts, ToolFault>
     ensures { result ≡ counts_of_pairs selected }
 {

@@ -3,7 +3,7 @@ use kc_io::{Sink, Source};
 use kc_select::{PairFault, PairSelection, Selected, Sides, select_into_one, select_into_two};
 use std::alloc::Global;
 
-/// How selected pairs are written to what is of type `W`.
+/// How selected pairs are written to a writer of type `W`.
 pub(crate) trait WritesPairs<W> {
     ghost use Rattle.std.specs.Prelude.{Result, ◌≤◌};
     ghost use Rattle.kc_fastx.specs.Parsing.{most_bytes};
@@ -13,7 +13,7 @@ pub(crate) trait WritesPairs<W> {
     ghost use Rattle.kc_select.specs.declared.selection_counts.Selected.{Selected};
     ghost use Rattle.kc_select.specs.declared.sides.Sides.{Sides};
 
-    // what is written: of the sources and of what is written to there is what was before it, and what is after it
+    // its effect: the sources and the writer before it, and after it
     ghost writes: { Self → W → W → PairsTask → Sides Seen → Sides Seen → Result Selected PairFault → Type 0 };
 
     /// Selects the pairs of two sources. Condition: each may give at most 2^36 bytes.
@@ -31,7 +31,7 @@ pub(crate) trait WritesPairs<W> {
             (record { first = S.seen first.new; second = T.seen second.new }) result };
 }
 
-/// The reads of each pair one behind the other.
+/// Both reads of each pair, one after the other.
 #[derive(Clone, Copy, Debug)]
 pub(crate) struct Interleaved;
 

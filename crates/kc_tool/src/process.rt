@@ -23,7 +23,7 @@ pub struct StreamNotes {
 }
 
 impl StreamNotes {
-    /// Nothing was read or written yet.
+    /// Before the first read or write.
     pub fn none() -> StreamNotes {
         StreamNotes {
             look: InputLook::nothing(),
@@ -38,7 +38,7 @@ impl StreamNotes {
         InputSource::new(input, &self.look)
     }
 
-    /// A sink over standard output. Why the last write failed that did is remembered.
+    /// A sink over standard output, which remembers why the last failed write failed.
     pub fn sink_over<W: io::Write>(&self, output: W) -> OutputSink<'_, W>
         ensures { result ≡ unwritten (W.contents output) }
     {
@@ -47,8 +47,8 @@ impl StreamNotes {
 }
 
 /// Carries out the command line `arguments`, which begins with the program's name, as `run` does, over streams that it
-/// takes for good, and answers the exit status: 0; 1 for a fault; 2 for a command line that is refused. Files are
-/// opened and created by `rt`. How far a count has come is shown nowhere.
+/// takes by value, and returns the exit status: 0; 1 for a fault; 2 for a command line that is refused. Files are
+/// opened and created by `rt`. The progress of a count is shown nowhere.
 pub fn program<
     H: Files + Threads + Wait + Sync,
     I: io::Read + Drop,
@@ -60,7 +60,7 @@ pub fn program<
         (at_first (I.remaining input) (O.contents output)) (unwritten (E.contents errors)) result }
 {
     let notes = StreamNotes::none();
-    let mut files = NamedFiles::new(rt).beside(&notes);
+    let mut files = NamedFiles::new(rt).with_notes(&notes);
     let mut input = notes.source_over(input);
     let mut output = notes.sink_over(output);
     let mut errors = ToWrite::new(errors);

@@ -1,4 +1,4 @@
-//! What holds of reports that are merged. It is the contract of a function that does nothing.
+//! Facts about merged reports. They are the contract of a function that does nothing.
 ghost use Rattle.kc_tool.specs.MergedReports.{
   ApartIsTogether,
   MergeWritesMerged,
@@ -11,10 +11,10 @@ ghost use Rattle.kc_tool.specs.MergedReports.{
 
 use kc_command::Options;
 
-/// Where `count_reads` has no list and writes a table, its text has the number of reads that the sources gave. Two such
-/// texts under one rule match, and they fit, so that they are never refused as unlike or as too large. What the command
-/// `merge` writes of them has the reads of both, and only one text does. So if the bytes of the sources are known, the
-/// tables of two inputs that were counted apart, merged, are byte for byte the table of both counted together.
+/// If `count_reads` has no list and writes a table, its text has the number of reads that the sources gave. Two such
+/// texts under one rule match, and they fit, so they are never refused as unlike or as too large. The sum that the
+/// command `merge` writes has the reads of both, and only one text does. So if the bytes of the sources are known, the
+/// tables of two inputs that were counted separately, merged, are byte for byte the table of both counted together.
 pub fn merged_reports(options: &Options)
     ensures report { ReportTellsReads options.now }
     ensures matched { ReportsMatch }
@@ -24,7 +24,7 @@ pub fn merged_reports(options: &Options)
     ensures together { ApartIsTogether options.now }
     ensures command { MergeWritesMerged }
 {
-    // for the proof: what is known of a length and of a floor
+    // for the proof: facts about a length and a floor
     let rule = options.rule();
     let _bases = rule.k().get();
     let _floor = rule.floor();

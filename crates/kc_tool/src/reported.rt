@@ -1,4 +1,4 @@
-//! `Reported`, what a report is written from: a tally or, where the report needs no more of it, its histogram or its
+//! `Reported`, what a report is written from: a tally or, if the report needs no more of it, its histogram or its
 //! statistics.
 ghost use Rattle.std.specs.Prelude.{◌≡◌, List, ⊤, refl};
 ghost use Rattle.kc_fastx.specs.Reads.{Read};
@@ -21,7 +21,7 @@ use kc_tally::Tally;
 use std::alloc::Global;
 use std::thread::Threads;
 
-/// What a count ends in, and a report on its tally is written from.
+/// The result of a count from which a report on its tally is written.
 pub(crate) trait Reported: Summary {
     ghost use Rattle.kc_tool.specs.declared.reports.Report.{Report};
 
@@ -31,11 +31,11 @@ pub(crate) trait Reported: Summary {
     // Whether that is enough for the report.
     ghost suits: { Report → Type 0 };
 
-    /// Writes a report on the tally, where that needs none of its rows. Else it writes nothing, and answers the tally.
-    /// Conditions: those of `write`, which calls it.
+    /// Writes a report on the tally, if that needs none of its rows. Otherwise it writes nothing, and returns the
+    /// tally. Conditions: those of `write`, which calls it.
     ///
     /// # Errors
-    /// `Write` where the writer failed or took no byte; a beginning of the text was written.
+    /// `Write` if the writer failed or took no byte; a beginning of the text was written.
     fn write_or_rows<W: Sink>(
         &self,
         writer: &mut W,
@@ -47,16 +47,16 @@ pub(crate) trait Reported: Summary {
         ensures { (table : TableSeen) → knows self.now table.0
             → WritesOrGives (λ tally. tally.now) table report (W.seen writer.old) (W.seen writer.new) result };
 
-    /// How many words the tally has, of so many reads.
+    /// How many words the tally has, with the number of reads.
     fn words(&self, reads: Option<u64>) -> CountedWords
         requires { (tally : TallySeen) × knows self.now tally }
         ensures { (tally : TallySeen) → knows self.now tally → result ≡ counted_with reads tally };
 
-    /// Writes a report on the tally, as `write_report` does. Condition besides: what is known is enough for it.
+    /// Writes a report on the tally, as `write_report` does. Additional condition: what is known is enough for it.
     ///
     /// # Errors
     /// Those of `write_report`.
-    // It is final, since the checker takes no function of an impl that hands a bounded type to another thread.
+    // It is final, since the checker accepts no function of an impl that hands a bounded type to another thread.
     final fn write<H: Threads + Sync, W: Sink>(
         &self,
         crew: &Crew<'_, H>,

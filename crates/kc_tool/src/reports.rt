@@ -31,18 +31,17 @@ use std::alloc::{AllocError, Global};
 use std::sync::Wait;
 use std::thread::Threads;
 
-/// The greatest count with a bin of its own: a histogram up to it needs the bins of the stripes alone.
-const GREATEST_BIN: u64 = 10_000;
+/// The greatest count with a bin of its own: a histogram up to it needs only the bins of the stripes.
+const MAX_BIN: u64 = 10_000;
 
-/// A report on a tally: which one, how it is laid out where it is a dump, and the greatest count that has a line of its
-/// own where it is a histogram.
+/// A report on a tally: which one, the form of a dump, and the greatest count with a line of its own in a histogram.
 #[derive(Clone, Copy, Debug, PartialEq, Eq)]
 pub(crate) struct Report {
     /// Which report it is.
     pub print: Print,
-    /// How a dump is laid out.
+    /// The form of a dump.
     pub dump: Dump,
-    /// The greatest count that has a line of its own in a histogram.
+    /// The greatest count with a line of its own in a histogram.
     pub high: u64,
 }
 
@@ -58,25 +57,24 @@ impl Report {
     }
 }
 
-/// The threads that make the text of a report: so many, each started by the runtime.
+/// The threads that make the text of a report, started by the runtime.
 #[derive(Drop)]
 pub(crate) struct Crew<'a, H: Threads> {
     /// The runtime.
     pub rt: &'a H,
-    /// How many they are.
+    /// How many there are.
     pub threads: u32,
 }
 
-/// Reads all sources in order, counts their words, and writes the report that the options ask for. Where `only` is
-/// given, it is read before the sources, and no word counts that does not occur in its reads, under the rule of the
-/// options. Nothing is written before all was read and counted. The sources have at most 2^36 bytes together, and
-/// `only` as many.
+/// Reads all sources in order, counts their words, and writes the report that the options ask for. If `only` is given,
+/// it is read before the sources, and only words count that occur in its reads, under the rule of the options. Nothing
+/// is written before all was read and counted. The sources have at most 2^36 bytes together, and so has `only`.
 ///
 /// # Errors
-/// `Fastx` with the fault of `only`, and number 0; the sources are as they were. Else with the fault of the first
-/// source that has one, and its number from 1. So it is also where a growth was refused while one of them was read.
-/// `Run` where the counting was refused, and `Memory` where a growth was refused elsewhere. After all these nothing was
-/// written. `Write` where the writer failed or took no byte; a beginning of the report was written.
+/// `Fastx` with the fault of `only`, and number 0; the sources are unchanged. Otherwise with the fault of the first
+/// source that has one, and its number from 1. The same if a growth was refused while one of them was read. `Run` if
+/// the counting was refused, and `Memory` if a growth was refused elsewhere. After all these nothing was written.
+/// `Write` if the writer failed or took no byte; a beginning of the report was written.
 pub fn count_reads<H: Threads + Wait + Sync, Q: Source + Drop, R: Source + Drop, W: Sink>(
     rt: &H,
     alloc: Global,
@@ -95,17 +93,17 @@ pub fn count_reads<H: Threads + Wait + Sync, Q: Source + Drop, R: Source + Drop,
         → Leaves options.now (W.seen writer.old) (W.seen writer.new) fault) }
 {
     let list = list_of(alloc, only, options)?;
-    let mut sources = unnamed(alloc, sources)?;
+    let mut sources = unnamed_sources(alloc, sources)?;
     let means = Means {
         rt,
         alloc,
         progress: &NoProgress,
     };
-    done(report_sources(&means, options, list, &mut sources, writer))
+    without_counts(report_sources(&means, options, list, &mut sources, writer))
 }
 
-// What a count comes to, without how much was counted.
-fn done(counted: Result<CountedWords, ToolFault>) -> Result<(), ToolFault>
+// The result of a count, without how much was counted.
+fn without_counts(counted: Result<CountedWords, ToolFault>) -> Result<(), ToolFault>
     ensures { result ≡ done_of counted }
 {
     match counted {
@@ -114,7 +112,7 @@ fn done(counted: Result<CountedWords, ToolFault>) -> Result<(), ToolFault>
     }
 }
 
-// The list of the words that occur in the reads of this source, where there is one.
+// The list of the words that occur in the reads of this source, if there is one.
 fn list_of<Q: Source + Drop>(
     alloc: Global,
     only: Option<Q>,
@@ -131,7 +129,7 @@ fn list_of<Q: Source + Drop>(
 }
 
 // The sources, without names.
-fn unnamed<R: Source + Drop>(
+fn unnamed_sources<R: Source + Drop>(
     alloc: Global,
     sources: Vec<R>,
 ) -> Result<Vec<NamedSource<'static, R>>, AllocError>
@@ -156,7 +154,7 @@ pub(crate) fn report_of(options: &Options) -> Report
     }
 }
 
-// What `report_given` does, of the reads of these sources alone, which may be none.
+// What `report_given` does, for the reads of these sources alone, which may be none.
 fn report_sources<H: Threads + Wait + Sync, R: Source, W: Sink, P: Progress + Sync>(
     means: &Means<'_, H, P>,
     options: &Options,
@@ -187,7 +185,7 @@ fn report_sources<H: Threads + Wait + Sync, R: Source, W: Sink, P: Progress + Sy
     Err(fault)
 }
 
-// What `report_given` does, of these files or, where there are none, of this input.
+// What `report_given` does, for these files or, if there are none, for this input.
 fn report_files<H: Threads + Wait + Sync, R: Source, F: Source, W: Sink, P: Progress + Sync>(
     means: &Means<'_, H, P>,
     options: &Options,
@@ -210,8 +208,8 @@ fn report_files<H: Threads + Wait + Sync, R: Source, F: Source, W: Sink, P: Prog
     report_given(means, options, list, &mut sources, writer)
 }
 
-/// Counts words as `count_given` does, writes the report that the options ask for, and answers how many were counted.
-/// Of the tally no more is gathered than the report is about. Its progress is reported, and when the writing begins.
+/// Counts words as `count_given` does, writes the report that the options ask for, and returns how many were counted.
+/// Only what the report needs of the tally is gathered. The progress is reported, and when the writing begins.
 ///
 /// # Errors
 /// Those of `count_given`; nothing was written. Those of `write_report`.
@@ -235,7 +233,7 @@ pub(crate) fn report_given<
     ensures kept { Keeps R.seen F.seen sources.old sources.new }
 {
     match options.print() {
-        Print::Histo if options.high() <= GREATEST_BIN => {
+        Print::Histo if options.high() <= MAX_BIN => {
             report_as::<Numbers, H, R, F, W, P>(means, options, list, sources, writer)
         }
         Print::Stats => report_as::<Numbers, H, R, F, W, P>(means, options, list, sources, writer),
@@ -243,7 +241,7 @@ pub(crate) fn report_given<
     }
 }
 
-// What `report_given` does, by a summary of this kind. Condition besides: it is enough for the report.
+// What `report_given` does, by a summary of this kind. Additional condition: it is enough for the report.
 fn report_as<
     S: Reported + Drop,
     H: Threads + Wait + Sync,
@@ -277,7 +275,7 @@ fn report_as<
     Ok(summary.words(reads_of(&origin)))
 }
 
-// How many reads a table was counted from, where that is known.
+// How many reads a table was counted from, if that is known.
 fn reads_of(origin: &Option<Origin>) -> Option<u64>
     ensures { result ≡ reads_of origin.now }
 {
@@ -287,12 +285,12 @@ fn reads_of(origin: &Option<Origin>) -> Option<u64>
     }
 }
 
-/// Writes a report on a tally; a table has what it was counted from, where that is known. Conditions: a histogram is
-/// for counts up to 1 to 10,000,000, and the origin is one that a header can have.
+/// Writes a report on a tally; a table has what it was counted from, if that is known. Conditions: the highest count of
+/// a histogram is 1 to 10,000,000, and the origin is one that a header can have.
 ///
 /// # Errors
-/// `Write` where the writer failed or took no byte; a beginning of the text was written. `Memory` where a growth was
-/// refused; nothing was written.
+/// `Write` if the writer failed or took no byte; a beginning of the text was written. `Memory` if a growth was refused;
+/// nothing was written.
 pub(crate) fn write_report<H: Threads + Sync, W: Sink>(
     crew: &Crew<'_, H>,
     alloc: Global,
@@ -317,10 +315,10 @@ pub(crate) fn write_report<H: Threads + Sync, W: Sink>(
     Ok(())
 }
 
-/// Writes a report on a table, of whose rows these are the numbers. Condition: it is a histogram or statistics.
+/// Writes a report on a table with these numbers. Condition: it is a histogram or statistics.
 ///
 /// # Errors
-/// `Write` where the writer failed or took no byte; a beginning of the text was written.
+/// `Write` if the writer failed or took no byte; a beginning of the text was written.
 pub(crate) fn write_numbers<W: Sink>(
     writer: &mut W,
     numbers: &TableNumbers,

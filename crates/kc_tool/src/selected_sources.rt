@@ -5,7 +5,7 @@ ghost use Rattle.kc_select.specs.Selecting.{task_of};
 ghost use Rattle.kc_tool.specs.GivenSources.{Keeps, seen_in};
 ghost use Rattle.kc_tool.specs.Selections.{SelectsFrom, SelectsNext};
 
-use crate::counted_sources::MOST_BYTES;
+use crate::counted_sources::MAX_BYTES;
 use crate::given_sources::{GivenSources, ReadsSource};
 use crate::tool_faults::ToolFault;
 use kc_fastx::Source;
@@ -14,12 +14,12 @@ use kc_select::{SelectFault, Selected, Selection, SelectionCounts, Selector, sel
 use kc_tally::Tally;
 use std::alloc::Global;
 
-/// Writes the reads of all sources that the selection keeps, in order, and counts all.
+/// Writes the reads of all sources that the selection keeps, in order, and counts all reads.
 ///
 /// # Errors
-/// `Memory` where the selection got no memory: nothing was read or written. `Fastx` with the fault of the first source
-/// that has one, and its number from 1. The selected ones of the reads before it were written. `Write` where the writer
-/// failed or took no byte.
+/// `Memory` if the selection got no memory: nothing was read or written. `Fastx` with the fault of the first source
+/// that has one, and its number from 1. The selected reads before it were written. `Write` if the writer failed or took
+/// no byte.
 pub(crate) fn select_given<R: Source, F: Source, W: Sink>(
     alloc: Global,
     sources: &mut GivenSources<'_, '_, '_, R, F>,
@@ -35,7 +35,7 @@ pub(crate) fn select_given<R: Source, F: Source, W: Sink>(
     select_all(alloc, sources, &selector, writer)
 }
 
-// Writes the reads of all sources that the selector keeps, in order, and counts all.
+// Writes the reads of all sources that the selector keeps, in order, and counts all reads.
 fn select_all<R: Source, F: Source, W: Sink>(
     alloc: Global,
     sources: &mut GivenSources<'_, '_, '_, R, F>,
@@ -47,10 +47,10 @@ fn select_all<R: Source, F: Source, W: Sink>(
         Selects (seen_in R.seen F.seen sources.new) (W.seen writer.old) (W.seen writer.new) result }
     ensures kept { Keeps R.seen F.seen sources.old sources.new }
 {
-    // for the proof: what is known of a length
+    // for the proof: facts about a length
     let _bases = selector.k().get();
     let mut counts = SelectionCounts::none();
-    let mut left = MOST_BYTES;
+    let mut left = MAX_BYTES;
     for i in 0..sources.count() {
         let choice = Choice {
             alloc,
@@ -60,12 +60,12 @@ fn select_all<R: Source, F: Source, W: Sink>(
         };
         let selected = sources.read(i, &choice, writer)?;
         left -= selected.bytes;
-        counts = counts.and(selected.counts);
+        counts = counts.plus(selected.counts);
     }
     Ok(counts)
 }
 
-// What is selected of the source of this number, which may give so many bytes.
+// The selection from the source with this number, which may give so many bytes.
 #[derive(Drop)]
 struct Choice<'a, 't> {
     alloc: Global,
@@ -100,8 +100,8 @@ impl<W: Sink> ReadsSource<W> for Choice<'_, '_> {
     }
 }
 
-// Writes the reads of the source of this number that the selection keeps. It counts all, and returns how many bytes the
-// source gave. Condition: the limit is at most 2^36.
+// Writes the reads of the source with this number that the selection keeps. It counts all reads, and returns how many
+// bytes the source gave. Condition: the limit is at most 2^36.
 fn select_next<R: Source, W: Sink>(
     alloc: Global,
     source: &mut R,

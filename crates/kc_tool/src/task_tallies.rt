@@ -1,18 +1,17 @@
-//! What is taken from the files of a task: the reads behind a list, a table, or two tables together.
-ghost use Rattle.std.specs.Prelude.{◌≡◌, ◌≤◌, IfErr, IfOk, Ok, drop, length, map, string_bytes};
+//! What is taken from the files of a task: the reads after a list, or tables.
+ghost use Rattle.std.specs.Prelude.{◌≡◌, ◌≤◌, All, IfErr, IfOk, drop, length, map, string_bytes};
+ghost use Rattle.kc_combine.specs.CombinedTexts.{GiveTables};
+ghost use Rattle.kc_combine.specs.LoadedTables.{table_seen};
 ghost use Rattle.kc_report.specs.Table.{MaySay};
-ghost use Rattle.kc_report.specs.Merging.{Merges};
 ghost use Rattle.kc_report.specs.TableReading.{GivesTable};
 ghost use Rattle.kc_tool.specs.GivenSources.{Keeps, KeepsFiles, listed_in, seen_in};
 ghost use Rattle.kc_tool.specs.Reports.{ReportsCount};
 ghost use Rattle.kc_tool.specs.Commands.{
-  MergesNot,
   TellCountsOf,
-  TellNoSum,
+  TellFirstFault,
   TellNoTable,
   TellOneTable,
   TellOneTableOf,
-  TellSum,
   TellsNoTable,
   most_table_bytes,
 };
@@ -23,23 +22,24 @@ use crate::given_sources::{GivenSources, ReadsSource};
 use crate::reports::report_given;
 use crate::told::CountedWords;
 use crate::tool_faults::{ToolFault, table_fault};
+use kc_combine::LoadedTable;
 use kc_command::Options;
 use kc_io::{Sink, Source};
-use kc_report::{Origin, TableNumbers, merge, read_asked, read_numbers, read_table};
+use kc_report::{Origin, TableNumbers, read_asked, read_numbers, read_table};
 use kc_tally::Tally;
 use std::alloc::Global;
 use std::sync::Wait;
 use std::thread::Threads;
 
-/// The most bytes that a table may have.
-const MOST_TABLE_BYTES: u64 = 1 << 42;
+/// The greatest number of bytes of a table.
+const MAX_TABLE_BYTES: u64 = 1 << 42;
 
 /// Counts those words that occur in the reads of the first file, in the reads of the sources, and writes the report
-/// that the options ask for, as `report_given` does. Its progress is reported. Condition: the first file, and no
-/// other, comes before the sources.
+/// that the options ask for, as `report_given` does. The progress is reported. Condition: only the first file comes
+/// before the sources.
 ///
 /// # Errors
-/// The fault of the list; the sources are as they were, and nothing was written. Those of `report_given`.
+/// The fault of the list; the sources are unchanged, and nothing was written. Those of `report_given`.
 pub(crate) fn report_listed<
     H: Threads + Wait + Sync,
     R: Source,
@@ -64,53 +64,33 @@ pub(crate) fn report_listed<
     report_given(means, options, Some(list), sources, writer)
 }
 
-/// The tables of the two sources, put together. The first is read whole before a byte of the second is. Condition:
-/// there are two sources.
+/// The tables of all sources. Each is read whole before a byte of the next one is.
 ///
 /// # Errors
-/// The fault of a table, or of two tables that can't be put together.
-pub(crate) fn sum_of<R: Source, F: Source>(
+/// The first fault of the first table that has one; the sources after it are unchanged. `Memory` if there was no memory
+/// for so many tables; no source was read.
+pub(crate) fn tables_of<R: Source, F: Source>(
     alloc: Global,
     sources: &mut GivenSources<'_, '_, '_, R, F>,
-) -> Result<(Tally, Option<Origin>), ToolFault>
-    requires { length (seen_in R.seen F.seen sources.old) ≡ 2 }
-    ensures sum { let Tells = TellSum (seen_in R.seen F.seen sources.old) (seen_in R.seen F.seen sources.new) in
-        IfOk result (λ sum. Tells (sum.0, sum.1)) }
-    ensures origin { IfOk result (λ sum. MaySay sum.1) }
-    ensures fault { IfErr result (TellNoSum (seen_in R.seen F.seen sources.old) (seen_in R.seen F.seen sources.new)) }
+) -> Result<Vec<LoadedTable>, ToolFault>
+    ensures tables { IfOk result (λ tables. GiveTables most_table_bytes (seen_in R.seen F.seen sources.old)
+        (seen_in R.seen F.seen sources.new) (map table_seen tables.items)) }
+    ensures origins { IfOk result (λ tables. All (λ table. MaySay table.origin) tables.items) }
+    ensures some { IfOk result (λ tables. 1 ≤ length tables.items) }
+    ensures fault { IfErr result (TellFirstFault (seen_in R.seen F.seen sources.old)
+        (seen_in R.seen F.seen sources.new)) }
     ensures kept { Keeps R.seen F.seen sources.old sources.new }
 {
-    let reader = TableReader { alloc, place: 1 };
-    let (first, first_origin) = sources.read(0, &reader, &mut ())?;
-    let reader = TableReader { alloc, place: 2 };
-    let (second, second_origin) = sources.read(1, &reader, &mut ())?;
-    merged(alloc, &first, first_origin, &second, second_origin)
+    let mut tables = Vec::with_capacity(alloc, sources.count())?;
+    for i in 0..sources.count() {
+        let place = i as u64 + 1;
+        let (tally, origin) = sources.read(i, &TableReader { alloc, place }, &mut ())?;
+        tables.push_reserved(LoadedTable { tally, origin });
+    }
+    Ok(tables)
 }
 
-// The sum of two tallies, and what it was counted from. Condition: the origins are such as a header can have.
-fn merged(
-    alloc: Global,
-    first: &Tally,
-    first_origin: Option<Origin>,
-    second: &Tally,
-    second_origin: Option<Origin>,
-) -> Result<(Tally, Option<Origin>), ToolFault>
-    requires first { MaySay first_origin }
-    requires second { MaySay second_origin }
-    ensures sum { IfOk result (λ sum. Merges first.now second.now first_origin second_origin (Ok (sum.0, sum.1))) }
-    ensures origin { IfOk result (λ sum. MaySay sum.1) }
-    ensures fault { IfErr result (MergesNot first.now second.now first_origin second_origin) }
-{
-    Ok(merge(
-        alloc,
-        first,
-        first_origin.as_ref(),
-        second,
-        second_origin.as_ref(),
-    )?)
-}
-
-/// The table of the one source. Condition: there is one source.
+/// The table of the only source. Condition: there is one source.
 ///
 /// # Errors
 /// The fault of the table.
@@ -128,7 +108,7 @@ pub(crate) fn table_of<R: Source, F: Source>(
     sources.read(0, &TableReader { alloc, place: 1 }, &mut ())
 }
 
-/// The numbers of the table of the one source, which has a place for each count up to this one. No rows are kept.
+/// The numbers of the table of the only source, with a place for each count up to this one. No rows are kept.
 /// Conditions: there is one source, and the count is at most 10,000,000.
 ///
 /// # Errors
@@ -170,18 +150,18 @@ impl ReadsSource<()> for NumbersReader {
         source: &mut R,
         _state: &mut (),
     ) -> Result<TableNumbers, ToolFault> {
-        match read_numbers(self.alloc, source, MOST_TABLE_BYTES, self.high) {
+        match read_numbers(self.alloc, source, MAX_TABLE_BYTES, self.high) {
             Ok(numbers) => Ok(numbers),
             Err(why) => Err(table_fault(1, why)),
         }
     }
 }
 
-/// The rows of these words in the table of the one source. No other rows are kept. Condition: there is one source.
+/// The rows of these words in the table of the only source. No other rows are kept. Condition: there is one source.
 ///
 /// # Errors
 /// The fault of the table.
-pub(crate) fn asked_of<R: Source, F: Source>(
+pub(crate) fn asked_rows<R: Source, F: Source>(
     alloc: Global,
     sources: &mut GivenSources<'_, '_, '_, R, F>,
     words: &[String],
@@ -214,14 +194,14 @@ impl ReadsSource<()> for AskedReader<'_> {
         TellsCountsOrNot (map string_bytes reader.words.now) old new result };
 
     fn read_source<R: Source>(&self, source: &mut R, _state: &mut ()) -> Result<Tally, ToolFault> {
-        match read_asked(self.alloc, source, MOST_TABLE_BYTES, self.words) {
+        match read_asked(self.alloc, source, MAX_TABLE_BYTES, self.words) {
             Ok(few) => Ok(few),
             Err(why) => Err(table_fault(1, why)),
         }
     }
 }
 
-// Reads the table of one source, with this memory. It is the table of this place, from 1.
+// Reads the table of one source, with this memory. It is table number `place`, from 1.
 #[derive(Drop)]
 struct TableReader {
     alloc: Global,
@@ -247,7 +227,7 @@ impl ReadsSource<()> for TableReader {
     }
 }
 
-// What the table text of this source says, which is the table of this place, from 1.
+// The table in the text of this source; it is table number `place`, from 1.
 pub(crate) fn table_from<R: Source>(
     alloc: Global,
     source: &mut R,
@@ -258,7 +238,7 @@ pub(crate) fn table_from<R: Source>(
     ensures origin { IfOk result (λ table. MaySay table.1) }
     ensures fault { IfErr result (TellsNoTable place (R.seen source.old) (R.seen source.new)) }
 {
-    match read_table(alloc, source, MOST_TABLE_BYTES) {
+    match read_table(alloc, source, MAX_TABLE_BYTES) {
         Ok(table) => Ok(table),
         Err(why) => Err(table_fault(place, why)),
     }

@@ -1,4 +1,4 @@
-//! The line on a terminal that shows how far a command has come.
+//! The line on a terminal with the progress of a command.
 use crate::count_progress::{Progress, Reached, Stage, push_progress};
 use kc_report::Block;
 use kc_run::Gate;
@@ -6,23 +6,23 @@ use std::io::{IsTerminal, Print};
 use std::sync::atomic::{AtomicBool, AtomicU64, Ordering};
 use std::time::{Clock, Duration, Instant};
 
-// The least time from one line of a count to the next, in milliseconds. It leaves room for one line that comes before
-// its time.
+// The least time from one line of a count to the next, in milliseconds. It allows for one line that comes before its
+// time.
 const INTERVAL: u64 = 125;
 
-// When the next line is due where no further one is shown.
+// The time of the next line if no further one is shown.
 const NEVER: u64 = u64::MAX;
 
-// Empties the line, from its beginning.
+// Clears the line, from its first column.
 const CLEARED: &[u8] = b"\r\x1b[K";
 
-// Says that input is typed, and how it ends.
+// A notice that input is typed, and how to end it.
 const INPUT_IS_TYPED: &[u8] = b"reading standard input; end it with Ctrl-D\n";
 
-/// A line on a terminal with the progress of a command: the bytes that were read, the batches that were counted,
-/// and how long it took; or the name of a part of it. What is told of a count is written over the line at most ten
-/// times a second, and not where the clock can't be read; nothing is written of a count that is over sooner. The line
-/// is cleared at the end. Nothing is written where there is no terminal.
+/// A line on a terminal with the progress of a command: the bytes that were read, the batches that were counted, and
+/// the time it took; or the name of a part of it. The progress of a count is written over the line at most ten times a
+/// second, and not if the clock can't be read; nothing is written of a count that is over sooner. The line is cleared
+/// at the end. Nothing is written if there is no terminal.
 #[derive(Drop)]
 pub struct ProgressLine<'a, C: Clock, T: Print + IsTerminal> {
     clock: &'a C,
@@ -30,13 +30,13 @@ pub struct ProgressLine<'a, C: Clock, T: Print + IsTerminal> {
     is_terminal: bool,
     input_is_terminal: bool,
     text_goes_to_file: AtomicBool,
-    // since when it counts; None where the clock can't be read
+    // when it was made; None if the clock can't be read
     began: Option<Instant>,
     bytes: AtomicU64,
-    // 0 where it is not known
+    // 0 if it is not known
     size: AtomicU64,
     counted: AtomicU64,
-    // 0 before they are known
+    // 0 before it is known
     batches: AtomicU64,
     // when the next line may be written, in milliseconds since `began`
     due: AtomicU64,
@@ -44,8 +44,8 @@ pub struct ProgressLine<'a, C: Clock, T: Print + IsTerminal> {
 }
 
 impl<'a, C: Clock, T: Print + IsTerminal> ProgressLine<'a, C, T> {
-    /// A line on this terminal, where it is one. Its first text of a count is written an eighth of a second later at
-    /// the earliest. Whether standard input is a terminal is given besides.
+    /// A line on this terminal, if it is one. Its first text of a count is written an eighth of a second later at the
+    /// earliest. `input_is_terminal` is whether standard input is a terminal.
     pub fn new(clock: &'a C, terminal: &'a T, input_is_terminal: bool) -> ProgressLine<'a, C, T> {
         ProgressLine {
             clock,
@@ -63,7 +63,7 @@ impl<'a, C: Clock, T: Print + IsTerminal> ProgressLine<'a, C, T> {
         }
     }
 
-    // Writes to the terminal, where it is one. What can't be shown is no fault of the command.
+    // Writes to the terminal, if it is one. A failure here is no fault of the command.
     fn write(&self, text: &[u8]) {
         if self.is_terminal {
             let _ = self.terminal.write_all(text);
@@ -76,24 +76,24 @@ impl<'a, C: Clock, T: Print + IsTerminal> ProgressLine<'a, C, T> {
         self.write(text);
     }
 
-    // Takes away what is shown.
+    // Clears what is shown.
     fn clear(&self) {
         if self.is_shown.swap(false, Ordering::SeqCst) {
             self.write(CLEARED);
         }
     }
 
-    // How long ago it was made; None where the clock can't be read.
-    fn passed(&self) -> Option<Duration> {
+    // How long ago it was made; None if the clock can't be read.
+    fn elapsed_time(&self) -> Option<Duration> {
         self.began?.elapsed(self.clock).ok()
     }
 
-    // Writes the line where that is due, or where all batches were counted, since what follows is not shown.
+    // Writes the line if that is due, or if all batches were counted, since what follows is not shown.
     fn show(&self, is_last: bool) {
         if !self.is_terminal {
             return;
         }
-        let Some(passed) = self.passed() else {
+        let Some(passed) = self.elapsed_time() else {
             return;
         };
         if !self.takes_turn(passed, is_last) {
@@ -111,7 +111,7 @@ impl<'a, C: Clock, T: Print + IsTerminal> ProgressLine<'a, C, T> {
         self.write_over(line.as_slice());
     }
 
-    // Whether a line is due. Of workers that ask at the same time one is answered so.
+    // Whether a line is due. Of workers that ask at the same time, only one gets true.
     fn takes_turn(&self, passed: Duration, is_last: bool) -> bool {
         let now = u64::try_from(passed.as_millis()).unwrap_or(u64::MAX);
         let order = Ordering::SeqCst;
@@ -126,8 +126,8 @@ impl<'a, C: Clock, T: Print + IsTerminal> ProgressLine<'a, C, T> {
         self.due.load(Ordering::SeqCst) == NEVER
     }
 
-    // Text is written from now on, and this shows it: nothing more of a count is shown, and where the text goes to no
-    // file that is named, nothing at all, since standard output may be shown on the same terminal.
+    // Text is written from now on: `said` is shown, and nothing more of a count; if the text goes to no file that is
+    // named, nothing at all, since standard output may be on the same terminal.
     fn text_begins(&self, said: &[u8]) {
         self.due.store(NEVER, Ordering::SeqCst);
         if self.text_goes_to_file.load(Ordering::SeqCst) {
@@ -199,7 +199,7 @@ impl<C: Clock, T: Print + IsTerminal> Progress for ProgressLine<'_, C, T> {
     }
 
     fn tenths_passed(&self) -> Option<u64> {
-        let millis = self.passed()?.as_millis();
+        let millis = self.elapsed_time()?.as_millis();
         Some(u64::try_from(millis / 100).unwrap_or(u64::MAX))
     }
 }

@@ -1,14 +1,15 @@
-//! What a command that ended well reports.
+//! What a command that succeeded reports.
 ghost use Rattle.std.specs.Prelude.{◌≡◌};
-ghost use Rattle.kc_tool.specs.Told.{asked_counts, counted_with};
+ghost use Rattle.kc_tool.specs.Told.{asked_counts, counted_in, counted_with};
 
+use kc_combine::Totals;
 use kc_select::SelectionCounts;
 use kc_tally::Tally;
 
 /// How many k-mers were counted, in how many reads.
 #[derive(Clone, Copy, Debug)]
 pub(crate) struct CountedWords {
-    /// How many reads there were, where that is part of the line.
+    /// How many reads there were, if the line has that.
     pub reads: Option<u64>,
     /// How many k-mers were counted.
     pub total: u64,
@@ -16,21 +17,21 @@ pub(crate) struct CountedWords {
     pub distinct: u64,
 }
 
-/// What a command that ended well reports.
+/// What a command that succeeded reports.
 #[derive(Clone, Copy, Debug)]
 pub(crate) enum Told {
-    /// Nothing: of help, and of a command that reads a table.
+    /// Nothing, for help and for a command that reads a table.
     Nothing,
-    /// Of a count, or of tables that were added.
+    /// For a count, and for tables that were combined.
     Counted(CountedWords),
-    /// Of a selection, and whether `--stats` asks for its counts.
+    /// For a selection, with whether `--stats` asks for its counts.
     Selected(SelectionCounts, bool),
-    /// Of profiles: how many reads they are of, and how many k-mers these have.
+    /// For profiles: how many reads there are, and how many k-mers they have.
     Profiled(SelectionCounts),
 }
 
 impl CountedWords {
-    /// How many k-mers a tally has, of so many reads.
+    /// How many k-mers a tally has, with the number of reads.
     pub fn of(tally: &Tally, reads: Option<u64>) -> CountedWords
         ensures { result ≡ counted_with reads tally.now }
     {
@@ -40,9 +41,20 @@ impl CountedWords {
             distinct: tally.row_count(),
         }
     }
+
+    /// How many k-mers a combination of tables has.
+    pub fn of_totals(totals: Totals) -> CountedWords
+        ensures { result ≡ counted_in totals }
+    {
+        CountedWords {
+            reads: None,
+            total: totals.total,
+            distinct: totals.distinct,
+        }
+    }
 }
 
-/// The counts of a selection, where they are asked for.
+/// The counts of a selection, if they are asked for.
 pub(crate) fn asked_counts(told: &Told) -> Option<SelectionCounts>
     ensures { result ≡ asked_counts told.now }
 {

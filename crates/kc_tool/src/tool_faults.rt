@@ -1,8 +1,9 @@
-//! The refusals of the program.
+//! The faults of the program.
 ghost use Rattle.std.specs.Prelude.{◌≡◌};
 ghost use Rattle.kc_tool.specs.declared.tool_faults.ToolFault.TheVariants.{BadOption, Memory, Run, Write};
-ghost use Rattle.kc_tool.specs.Faults.{report_fault, table_fault};
+ghost use Rattle.kc_tool.specs.Faults.{combine_fault, report_fault, table_fault};
 
+use kc_combine::{CombineFault, PlacedFault};
 use kc_command::OptionName;
 use kc_fastx::FastxFault;
 use kc_io::Failed;
@@ -25,10 +26,10 @@ pub enum ToolFault {
     /// The first line of a table is no header.
     #[error("bad header")]
     BadHeader,
-    /// This line of a table, numbered from 1, is no row in its place.
+    /// This line of a table, numbered from 1, is no row that may come there.
     #[error("bad row, line {0}")]
     BadRow(u64),
-    /// A table has no end line, or a wrong one, or goes on behind it.
+    /// A table has no end line, or a wrong one, or goes on after it.
     #[error("bad end")]
     BadEnd,
     /// The source of a table gave more bytes than its limit.
@@ -52,22 +53,23 @@ pub enum ToolFault {
     /// The counting was refused.
     #[error("{0}")]
     Run(RunFault),
-    /// The file of this name could not be opened, or not be created.
+    /// The file with this name could not be opened, or not be created.
     #[error("cannot open {0}")]
     OpenFailed(String),
-    /// The tables that are to be added do not match.
+    /// The tables that are to be combined do not match.
     #[error("tables do not match")]
     Unlike,
-    /// The counts of two tables together, or their reads together, are above 2^62.
+    /// A count of combined tables, or the sum of their counts or of their reads, is above 2^62.
     #[error("sums too large")]
     TooLarge,
-    /// The table of this place, numbered from 1, is broken gzip.
+    /// Table number `place`, from 1, is broken gzip.
     #[error("broken gzip, source {0}")]
     BrokenTable(u64),
-    /// The table of this place, numbered from 1, is gzip that is cut short.
+    /// Table number `place`, from 1, is gzip that is cut short.
     #[error("gzip cut short, source {0}")]
     ShortTable(u64),
-    /// The records with this number, from 1, are no pair: their titles differ, or one source has no such record.
+    /// The records with this number, from 1, are no pair: their titles are not those of mates, or one source has no
+    /// such record.
     #[error("reads are no pair, record {0}")]
     Unpaired(u64),
 }
@@ -120,7 +122,7 @@ impl From<ReportFault> for ToolFault {
     }
 }
 
-/// Why the table of this place, numbered from 1, could not be read, or no report be written.
+/// Why table number `place`, from 1, could not be read, or no report be written.
 pub(crate) fn table_fault(place: u64, fault: ReportFault) -> ToolFault
     ensures { result ≡ table_fault place fault }
 {
@@ -137,5 +139,18 @@ pub(crate) fn table_fault(place: u64, fault: ReportFault) -> ToolFault
         ReportFault::TooLarge => ToolFault::TooLarge,
         ReportFault::BrokenGzip => ToolFault::BrokenTable(place),
         ReportFault::ShortGzip => ToolFault::ShortTable(place),
+    }
+}
+
+/// Why tables could not be combined.
+pub(crate) fn combine_fault(fault: CombineFault<PlacedFault>) -> ToolFault
+    ensures { result ≡ combine_fault fault }
+{
+    match fault {
+        CombineFault::Table(PlacedFault { place, fault }) => table_fault(place, fault),
+        CombineFault::Unlike => ToolFault::Unlike,
+        CombineFault::TooLarge => ToolFault::TooLarge,
+        CombineFault::Write => ToolFault::Write,
+        CombineFault::Memory => ToolFault::Memory,
     }
 }

@@ -20,11 +20,11 @@ code-or v w i = ap (λ n. n % 4) (or_shr v w (62 - 2 * i)) ∙ or_mod (v / 2 ^ (
 front_of : ℕ → ℕ → ℕ
 front_of number count = number / 2 ^ (64 - 2 * count) * 2 ^ (64 - 2 * count) % 2 ^ 64
 
--- the last number with the first codes of another one behind those that it has
+-- the last number with the first codes of another one after those that it has
 with_front : List ℕ → ℕ → ℕ → ℕ → ℕ
 with_front numbers n count number = bit_or (get_or numbers (n / 32) 0) (front_of number count / 2 ^ (2 * (n % 32)))
 
--- so many codes, of which the last number has some, and room for more
+-- so many codes, with some of them in the last number, and room for more
 pub record HasRoom (numbers : List ℕ) (n count : ℕ) : Type 0 where
   pub packed : ArePacked numbers n
   pub some : 1 ≤ count
@@ -112,7 +112,7 @@ filled-last numbers next n count number room e = record {
 
 -- ---- codes in two numbers
 
--- the first codes of a number, and those behind them
+-- the first codes of a number, and those after them
 pub codes_in-split : (number first rest : ℕ) → first + rest ≤ 32
     → codes_in number first ++ codes_in (number * 2 ^ (2 * first) % 2 ^ 64) rest ≡ codes_in number (first + rest)
 unfolding codes_in
@@ -124,7 +124,7 @@ pub length-codes_in : (number n : ℕ) → length (codes_in number n) ≡ n
 unfolding codes_in
 length-codes_in number n = length-map-range_with_len (λ i. code_in number i) 0 n
 
--- codes and the first ones of a number behind them, as they stand in numbers
+-- codes followed by the first ones of a number, in their numbers
 pub record AreFilled (before : List ℕ) (number count : ℕ) (numbers : List ℕ) (n : ℕ) : Type 0 where
   pub packed : ArePacked numbers n
   pub codes : codes_of numbers n ≡ before ++ codes_in number count
@@ -134,7 +134,7 @@ pub none-appended : (before : List ℕ) (number count : ℕ) → count ≡ 0 →
 unfolding codes_in
 none-appended before number count e = sym (ap (λ n. before ++ codes_in number n) e ∙ append-nil before)
 
--- the codes once the last number is full, and then once the rest stands in the next one
+-- the codes once the last number is full, and then once the rest is in the next one
 pub record SplitStep (before : List ℕ) (number count : ℕ) : Type 0 where
   pub first : ℕ
   pub filled : List ℕ
@@ -155,11 +155,11 @@ appended-split before number count s =
 
 -- ---- a part, window by window
 
--- the codes with so many others behind them, from an index on
+-- the codes followed by so many others, from an index on
 pub record IsAppended (before now others : List ℕ) (from taken : ℕ) : Type 0 where
   pub is : now ≡ before ++ map (λ i. get_or others (from + i) 0) (range_with_len 0 taken)
 
--- one window more: so many codes of a number, which has those that come next
+-- one more window: so many codes of a number, which has those that come next
 pub record AppendStep (before others : List ℕ) (from taken : ℕ) : Type 0 where
   pub now : List ℕ
   pub next : List ℕ

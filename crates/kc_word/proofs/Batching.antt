@@ -1,4 +1,4 @@
--- How batches are made as pieces come, one part after another, and that they are the cutting.
+-- How batches are made as pieces come, part after part, and that they are the cutting.
 use Rattle.std.proofs.Common.{cond, ltb, ◌≡◌, ℕ, ◌+◌, ◌-◌, ◌*◌, ◌/◌, ◌<◌, ◌≤◌, min, ⊎_elim, ◌⊎◌, slice_range, List, [], ◌∷◌, ◌++◌, map, length, take, sum_by, ap, sym, ◌∙◌, subst, arith, le-div_iff_mul-le, div-lt_iff_lt-mul}
 use Rattle.std.proofs.lemmas.Bool.{cases_lt, cond-true, cond-false, lt-ltb, le-ltb}
 use Rattle.std.proofs.Math.Nat.{mul-le-mul_right}
@@ -13,7 +13,7 @@ use Rattle.kc_word.proofs.Stretches.{stretches_from, stretches-are}
 use Rattle.kc_word.proofs.Taking.{stretches-skip, stretches-nil, stretches-none, stretches-push, stretches-all, stretch-empty, stretch-some}
 use Rattle.kc_word.proofs.Cuttings.{length-cut, stretches-windows, length-all_windows, cutting-words, cutting-occurrences}
 
--- behind the last position there is no stretch
+-- after the last position there is no stretch
 stretches-past : (k low high : ℕ) (pieces : List (List ℕ)) → position_total k pieces ≤ low → stretches k low high pieces ≡ []
 stretches-past k low high pieces h =
     let whole = ap (position_total k) (take_all (length pieces) pieces (omega arith)) in
@@ -21,7 +21,7 @@ stretches-past k low high pieces h =
     ∙ ap (stretches_from k low high (0 + position_total k (take (length pieces) pieces))) (drop_all (length pieces) pieces (omega arith))
     ∙ stretches-nil k low high (0 + position_total k (take (length pieces) pieces))
 
--- where there is no stretch there is no position left
+-- if there is no stretch there is no position left
 positions-past : (k low size : ℕ) (pieces : List (List ℕ)) → 1 ≤ k → 1 ≤ size → stretches k low (low + size) pieces ≡ []
     → position_total k pieces ≤ low
 positions-past k low size pieces some size_some none =
@@ -52,7 +52,7 @@ HasTaken-none cutting batches begun filled = record {
     none : length cutting.batches ≡ 0
     none = ap length batches
 
--- a piece whose positions come behind a number has no stretch before it
+-- a piece whose positions follow a number has no stretch before it
 push-before : (k low high : ℕ) (pieces : List (List ℕ)) (piece : List ℕ) → high ≤ position_total k pieces
     → stretches k low high (pieces ++ piece ∷ []) ≡ stretches k low high pieces
 push-before k low high pieces piece h =
@@ -61,7 +61,7 @@ push-before k low high pieces piece h =
     (stretch-empty k piece (low - position_total k pieces) (min (position_count k (length piece)) (high - position_total k pieces)) (omega (arith, h)))
     ∙ append-nil (stretches k low high pieces)
 
--- none of the positions of one piece more is cut yet
+-- none of the positions of one more piece is cut yet
 pub HasCut-next : (cutting : OpenCutting) (pieces : List (List ℕ)) (piece : List ℕ) → HasTaken cutting pieces
     → HasCut cutting (pieces ++ piece ∷ []) (position_total cutting.k pieces)
 HasCut-next cutting pieces piece taken = record {
@@ -76,7 +76,7 @@ HasCut-next cutting pieces piece taken = record {
   number = taken.number;
 }
 
--- the cutting with one part more, of so many positions, in the batch that is begun, which is whole then where it has
+-- the cutting with one more part, of so many positions, in the batch that is begun, which is whole then if it has
 -- `size` positions
 abbrev pub with_part : OpenCutting → List ℕ → ℕ → OpenCutting
 with_part cutting part taken =
@@ -94,7 +94,7 @@ with_part cutting part taken =
       filled = 0;
     })
 
--- the cutting with one part more, whose batch is not whole yet, and whose batch is
+-- the cutting with one more part, whose batch is not whole yet, and whose batch is
 pub with_part-begun : (cutting : OpenCutting) (part : List ℕ) (taken : ℕ) → cutting.filled + taken < cutting.size
     → with_part cutting part taken ≡ record cutting { begun = cutting.begun ++ part ∷ []; filled = cutting.filled + taken }
 with_part-begun cutting part taken h = cond-true _ _ _ (lt-ltb (cutting.filled + taken) cutting.size h)
@@ -107,7 +107,7 @@ pub with_part-whole : (cutting : OpenCutting) (part : List ℕ) (taken : ℕ) �
     }
 with_part-whole cutting part taken h = cond-false _ _ _ (le-ltb (cutting.filled + taken) cutting.size h)
 
--- where so many positions of one piece more are cut, they are a front of it
+-- if so many positions of one more piece are cut, they are a prefix of it
 pub front-left : (old now : OpenCutting) (piece : List ℕ) (count : ℕ) → now.k ≡ old.k → count ≤ position_count old.k (length piece)
     → ((pieces : List (List ℕ)) → HasTaken old pieces → HasCut now (pieces ++ piece ∷ []) (position_total old.k pieces + count))
     → (pieces : List (List ℕ)) → HasTaken old pieces → HasTakenFront now pieces piece
@@ -169,7 +169,7 @@ part-behind cutting pieces piece s =
     first : ℕ
     first = position_total cutting.k pieces
 
--- with the part the cutting has cut its positions too, and where the piece has more, a batch is whole
+-- with the part the cutting has cut its positions too, and if the piece has more, a batch is whole
 pub HasCut-more : (cutting : OpenCutting) (pieces : List (List ℕ)) (piece : List ℕ) (s : PartStep cutting pieces piece)
     → HasCut (with_part cutting (slice_range piece s.position (s.position + s.taken + cutting.k - 1)) s.taken) (pieces ++ piece ∷ [])
     (position_total cutting.k pieces + (s.position + s.taken))
@@ -224,11 +224,11 @@ HasCut-more cutting pieces piece s =
           number = omega (arith, more, high);
         }
 
--- the batch that is begun is empty again where the part fills it
+-- the batch that is begun is empty again if the part fills it
 pub filled-up : (cutting : OpenCutting) (part : List ℕ) (taken : ℕ) → cutting.size ≤ cutting.filled + taken → (with_part cutting part taken).filled ≡ 0
 filled-up cutting part taken h = ap (λ (c : OpenCutting). c.filled) (cond-false _ _ _ (le-ltb (cutting.filled + taken) cutting.size h))
 
--- the length of the words and the size stay as they are
+-- the length of the words and the size are unchanged
 pub with_part-k : (cutting : OpenCutting) (part : List ℕ) (taken : ℕ) → (with_part cutting part taken).k ≡ cutting.k
 with_part-k cutting part taken =
     ⊎_elim (λ h. ap (λ (c : OpenCutting). c.k) (cond-true _ _ _ (lt-ltb (cutting.filled + taken) cutting.size h)))
@@ -248,7 +248,7 @@ pub record Finished (cutting : OpenCutting) (pieces : List (List ℕ)) : Type 0 
   pub room : cutting.filled < cutting.size
   pub taken : HasTaken cutting pieces
 
--- where a batch is begun, it is the last one
+-- if a batch is begun, it is the last one
 pub finished-last : (c : OpenCutting) (pieces : List (List ℕ)) → Finished c pieces → 1 ≤ length c.begun
     → c.batches ++ record { number = length c.batches; pieces = c.begun } ∷ [] ≡ cutting c.k c.size pieces
 unfolding cutting
@@ -273,7 +273,7 @@ finished-last c pieces s some =
         let none = ap length (s.taken.rest ∙ stretches-past c.k (made * c.size) (position_total c.k pieces) pieces (omega (arith, number, e))) in
         omega (arith, none, some)
 
--- where none is begun, the whole ones are all
+-- if none is begun, the whole ones are all
 pub finished-all : (c : OpenCutting) (pieces : List (List ℕ)) → Finished c pieces → length c.begun ≡ 0 → c.batches ≡ cutting c.k c.size pieces
 unfolding cutting
 finished-all c pieces s none =
@@ -288,7 +288,7 @@ finished-all c pieces s none =
     made : ℕ
     made = length c.batches
 
--- ---- what a cutting says of the words
+-- ---- what a cutting means for the words
 
 pub occurrences-cut : (k size : ℕ) (pieces : List (List ℕ)) (batches : List NumberedPieces) → 1 ≤ k → 1 ≤ size → batches ≡ cutting k size pieces
     → KeepsOccurrences k pieces batches

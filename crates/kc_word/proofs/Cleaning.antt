@@ -45,7 +45,7 @@ are_piece_bytes-cleaned rule read =
 
 -- ---- the words of a cleaned read
 
--- a base is usable in the piece where it is usable in the read
+-- a base is usable in the piece if it is usable in the read
 usable-cleaned : (rule : CountingRule) (read : Read) (j : ℕ) → j < length read.bases
     → is_usable rule (read_of (cleaned rule read) None) j ≡ is_usable rule read j
 unfolding is_usable is_base
@@ -67,7 +67,7 @@ all_usable-cleaned rule read (suc k) p h =
     (usable-cleaned rule read p (omega (arith, h)))
     ∙ ap (λ b. is_usable rule read p && b) (all_usable-cleaned rule read k (p + 1) (omega (arith, h)))
 
--- where all bases are usable, the piece has the letters of the read in upper case
+-- if all bases are usable, the piece has the letters of the read in upper case
 letters-cleaned : (rule : CountingRule) (read : Read) (k p : ℕ) → p + k ≤ length read.bases
     → list_all (λ j. is_usable rule read j) (range_with_len p k) ≡ true
     → map to_ascii_uppercase (take k (drop p (cleaned rule read))) ≡ map to_ascii_uppercase (take k (drop p read.bases))

@@ -1,4 +1,4 @@
--- What of runs lies between two indices: the same indices, counted from the first, and runs that rise.
+-- What of runs lies between two indices: the same indices, counted from the first, and ascending runs.
 use Rattle.std.proofs.Common.{◌≡◌, ℕ, ◌+◌, ◌-◌, ◌<◌, ◌≤◌, ⊎_elim, false, ◌||◌, cond, ltb, List, [], ◌∷◌, ◌++◌, length}
 use Rattle.std.proofs.Common.{get_or, take, drop, refl, ap, sym, ◌∙◌, subst, arith, min, max, lit<}
 use Rattle.std.proofs.lemmas.Bool.{cases_lt, cond-true, cond-false, lt-ltb, le-ltb}
@@ -114,7 +114,7 @@ clip-left : (from to start end : ℕ) (run : Run) → start ≡ max run.start fr
     → end ≤ start → clip from to run ≡ []
 clip-left from to start end run low high h = clip-none from to run (omega (arith, low, high, h))
 
--- nothing lies before an index where the runs begin behind it
+-- nothing lies before an index if the runs begin after it
 clipped-past : (low end from to : ℕ) (runs : List Run) → to ≤ low → AreRuns low end runs
     → flat_map (λ run. clip from to run) runs ≡ []
 clipped-past low end from to [] h rising = refl
@@ -157,7 +157,7 @@ clipping-none runs first from to passed =
     let none : 0 ≡ first - first = omega arith in
     record { order = omega arith; passed = passed; taken = ap (λ n. flat_map (λ run. clip from to run) (take n (drop first runs))) none }
 
--- with one run more they rise too
+-- with one more run they rise too
 clipping-rises : {runs clipped : List Run} {first n from to : ℕ} (run : Run) → IsRunAt runs n run
     → IsClipping runs clipped first n from to → AreRuns 0 (to - from) (clipped ++ clip from to run)
 clipping-rises {runs} {clipped} {first} {n} {from} {to} run here before =
@@ -173,7 +173,7 @@ pub record AreClipped (runs clipped : List Run) (from to : ℕ) : Type 0 where
   pub rising : AreRuns 0 (to - from) clipped
   pub same : (i : ℕ) → i < to - from → is_in_runs clipped i ≡ is_in_runs runs (from + i)
 
--- the runs with that behind them which lies of others from one index to before another, counted from an index
+-- the runs with that after them which lies of others from one index to before another, counted from an index
 pub record AreAppended (runs others next : List Run) (at from to : ℕ) : Type 0 where
   pub clipped : List Run
   pub clipped_are : AreClipped others clipped from to
@@ -188,7 +188,7 @@ clipped-all runs clipped first from to passed e = record {
       ∙ passed.same (from + i) (omega arith);
 }
 
--- behind the last run
+-- after the last run
 clipping-end : (runs clipped : List Run) (first n from to : ℕ) → length runs ≤ n
     → IsClipping runs clipped first n from to → AreClipped runs clipped from to
 clipping-end runs clipped first n from to h before =
@@ -197,7 +197,7 @@ clipping-end runs clipped first n from to h before =
     (before.taken
     ∙ ap (flat_map (λ r. clip from to r)) (take_all (n - first) (drop first runs) (omega (arith, long, h))))
 
--- at a run that begins behind the last index
+-- at a run that begins after the last index
 clipping-past : {runs clipped : List Run} {first n from to : ℕ} {run : Run} → IsRunAt runs n run
     → IsClipping runs clipped first n from to → to ≤ run.start → AreClipped runs clipped from to
 clipping-past {runs} {clipped} {first} {n} {from} {to} {run} found before low =
@@ -219,7 +219,7 @@ clipping-past {runs} {clipped} {first} {n} {from} {to} {run} found before low =
     ∙ sym (flat_map-append (λ r. clip from to r) (take (n - first) (drop first runs)) (drop (n - first) (drop first runs)))
     ∙ ap (flat_map (λ r. clip from to r)) (take-append-drop (n - first) (drop first runs)))
 
--- ---- the runs with those behind them that are clipped so far
+-- ---- the runs with those after them that are clipped so far
 
 pub record IsAppending (runs others now : List Run) (at first n from to : ℕ) : Type 0 where
   pub clipped : List Run
@@ -234,7 +234,7 @@ appending-none {runs} {others} {at} {first} {from} {to} rising passed = record {
   joined = AreJoined-none at runs rising;
 }
 
--- where of a run something lies between the indices
+-- if part of a run is between the indices
 pub record ClipStep (others : List Run) (n from to : ℕ) : Type 0 where
   pub run : Run
   pub start : ℕ
@@ -279,7 +279,7 @@ appending-left {runs} {others} {now} {at} {first} {n} {from} {to} s none a = rec
   joined = a.joined;
 }
 
--- behind the last run, and at a run that begins behind the last index
+-- after the last run, and at a run that begins after the last index
 pub appending-end : {runs others now : List Run} {at first n from to : ℕ} → length others ≤ n
     → IsAppending runs others now at first n from to → AreAppended runs others now at from to
 appending-end {runs} {others} {now} {at} {first} {n} {from} {to} h a = record {

@@ -1,4 +1,4 @@
--- The words of a piece as one byte more adds to them, and the rolled numbers as the code has them.
+-- The words of a piece as one more byte adds to them, and the rolled numbers as the code has them.
 use Rattle.std.proofs.Common.{◌≡◌, ℕ, ◌+◌, ◌-◌, ◌*◌, ◌/◌, ◌%◌, ◌^◌, ◌<◌, ◌≤◌, List, [], ◌∷◌, ◌++◌, length, get_or, take, None, option_to_list, option_map, filter_map, refl, ap, sym, ◌∙◌, arith, bit_and, lit<, pow-suc, mul-le-mul_right}
 use Rattle.std.proofs.lemmas.List.{map_push, take_more, append-nil}
 use Rattle.std.proofs.lemmas.Nat.{one_shl, and_mask, shl_whole, pow_pos}
@@ -30,7 +30,7 @@ words_in_push rule seen byte =
     words_in-windows rule (seen ++ byte ∷ []) ∙ words_push rule.k rule seen byte
     ∙ ap (λ xs. xs ++ option_to_list (counted_word rule (last_window rule.k (seen ++ byte ∷ [])))) (sym (words_in-windows rule seen))
 
--- ---- the numbers as the code has them, where g is k
+-- ---- the numbers as the code has them, with k for g
 
 power-fits : (k : ℕ) → k ≤ 31 → 4 ^ k ≤ 2 ^ 62
 power-fits k h = let power : 4 ^ k ≤ 4 ^ 31 = pow-le-pow_right (lit< tt) h in omega (arith, power)
@@ -76,7 +76,7 @@ pub words_of-none : (rule : CountingRule) → words_of rule (as_reads []) ≡ []
 unfolding words_of
 words_of-none rule = refl
 
--- one piece more, at an index, with the words before it and behind it
+-- one more piece, at an index, with the words before it and after it
 pub record PieceStep (rule : CountingRule) (pieces : List (List ℕ)) : Type 0 where
   pub index : ℕ
   pub piece : List ℕ

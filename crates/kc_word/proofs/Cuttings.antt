@@ -1,4 +1,4 @@
--- What a cutting holds: batch by batch the windows of the pieces, each once and in order.
+-- The contents of a cutting: batch by batch the windows of the pieces, each once and in order.
 use Rattle.std.proofs.Common.{◌≡◌, ℕ, zero, suc, ◌+◌, ◌-◌, ◌*◌, ◌/◌, ◌<◌, ◌≤◌, min, ⊎_elim, ◌⊎◌, inl, inr, Bool, false, cond, List, [], ◌∷◌, ◌++◌, length, get_or, take, drop, None, filter_map, sum_by, count_by, refl, ap, sym, ◌∙◌, arith, le-div_iff_mul-le, div-add-mod', mod-lt}
 use Rattle.std.proofs.lemmas.Bool.{cases_lt, cond-true, cond-false, lt-ltb, le-ltb}
 use Rattle.std.proofs.lemmas.List.{length-append, length-take, length-drop, length-take-le, take-take, drop-drop, drop-take, take_all, take-append-drop, drop_all, same_lists, get_or-take, get_or-drop, append-nil, take_min}
@@ -197,7 +197,7 @@ pub cutting-words : (rule : CountingRule) (size : ℕ) (pieces : List (List ℕ)
 cutting-words rule size pieces some size_some =
     batches-words rule (cutting rule.k size pieces) ∙ ap (filter_map (counted_word rule)) (cutting-windows rule.k size pieces some size_some) ∙ sym (words_of-windows rule pieces)
 
--- whether a window holds this word, and the word counts
+-- whether a window has this word, and the word counts
 holds : CountingRule → List ℕ → List ℕ → Bool
 holds rule word window = option_map_or (λ found. bytes_eq found word) (counted_form rule window) false
 

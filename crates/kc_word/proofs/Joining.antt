@@ -24,7 +24,7 @@ IsPiece-none codes runs no_codes no_runs =
       clear = λ i h. refl;
     }))
 
--- the bytes of a piece with those of another behind them
+-- the bytes of a piece with those of another after them
 pub record IsJoined (bytes behind codes : List ℕ) (runs : List Run) : Type 0 where
   pub piece : IsPiece codes runs
   pub bytes_are : bytes_of codes runs ≡ bytes ++ behind
@@ -91,7 +91,8 @@ joined-bytes codes others runs gaps next s =
         ∙ get_or-append-add (bytes_of codes runs) (bytes_of others gaps) i 0
         ∙ get_or-bytes_of others gaps i 0 h)
 
--- a piece, another one, and the indices between which its part is appended: what of its runs lies there, all runs, and all codes
+-- a piece, another one, and the indices between which its part is appended: what of its runs lies there, all runs, and
+-- all codes
 pub record PartStep (codes others : List ℕ) (runs gaps : List Run) (from to : ℕ) : Type 0 where
   pub clipped : List Run
   pub next : List Run

@@ -1,4 +1,5 @@
--- The words of a list: those of the reads, that rising words are told by their elements, and the search by halving.
+-- The words of a list: those of the reads, that ascending words are determined by their elements, and the search by
+-- halving.
 use Rattle.std.proofs.Common.{◌≡◌, ℕ, zero, suc, ◌+◌, ◌-◌, ◌^◌, ◌<◌, ◌≤◌, ◌↔◌, ⊎_elim, eqb, List, [], ◌∷◌, ◌++◌, length, get_or, take, drop, true, false, All, Some, Result, Ok, Err, Contains, cond, refl, ap, sym, ◌∙◌, subst, arith, eq-eqb, eqb-true, ne_eqb}
 use Rattle.std.proofs.lemmas.Bool.{cases_lt}
 use Rattle.std.proofs.lemmas.List.{get_or-drop, take_all, take_more, get_or_default, append-nil}
@@ -40,7 +41,7 @@ HasWords-same next same has = record {
   others = λ n h. has.others n ((same n).0 h);
 }
 
--- one read more, at an index
+-- one more read, at an index
 pub HasWords-more : (rule : CountingRule) (reads : List Read) (i : ℕ) (read : Read) (words next : List ℕ) → i < length reads
     → read ≡ get_or reads i read → next ≡ words ++ words_in rule read → HasWords rule (take i reads) words
     → HasWords rule (take (i + 1) reads) next
@@ -68,7 +69,7 @@ HasWords-all rule reads i words h has =
     let whole = subst (λ seen. HasWords rule seen words) (take_all i reads h) has in
     λ n. (whole.others n, whole.all n)
 
--- a word stands among the words of the reads where it occurs
+-- a word is among the words of the reads if it occurs
 occurs : (rule : CountingRule) (reads : List Read) (n : ℕ) → n < 4 ^ rule.k
     → Contains (words_of rule reads) n ↔ (1 ≤ occurrences rule reads (text rule.k n))
 occurs rule reads n below =
@@ -82,7 +83,7 @@ occurs rule reads n below =
           (i, within, eqb-true (get_or (words_of rule reads) i n) n (is n)),
     )
 
--- rising words that are those of the reads are their list
+-- ascending words that are those of the reads are their list
 pub listed-words : (rule : CountingRule) (reads : List Read) (words : List ℕ) → IsStrictlyIncreasing words
     → ((n : ℕ) → Contains words n ↔ Contains (words_of rule reads) n) → AreListed rule.k words
 listed-words rule reads words rising same = record {
@@ -105,7 +106,7 @@ list-of rule reads list same_k same_both listed same = record {
   );
 }
 
--- ---- rising words
+-- ---- ascending words
 
 rises : (words : List ℕ) → IsStrictlyIncreasing words → (i j : ℕ) → i ≤ j → j < length words → get_or words i 0 ≤ get_or words j 0
 rises words rising i j le within =
@@ -114,7 +115,7 @@ rises words rising i j le within =
     (λ more. let same : i ≡ j = omega (arith, le, more) in let e = ap (λ m. get_or words m 0) same in omega (arith, e))
     (cases_lt i j)
 
--- rising words that have the same elements are the same
+-- ascending words that have the same elements are the same
 pub same-rising : (words others : List ℕ) → IsStrictlyIncreasing words → IsStrictlyIncreasing others
     → ((n : ℕ) → Contains words n → Contains others n) → ((n : ℕ) → Contains others n → Contains words n) → words ≡ others
 same-rising [] [] rising up there back = refl
@@ -197,7 +198,7 @@ greater-behind words place word rising more k from within =
     let up = rises words rising place k from within in
     omega (arith, up, more)
 
--- what a search by halving finds in rising words
+-- what a search by halving finds in ascending words
 pub found-by-halving : (words : List ℕ) (word : ℕ) (r : Result ℕ ℕ) → IsStrictlyIncreasing words
     → IsBinarySearchResult (λ n. nat_cmp n word) words r → is_ok r ≡ is_listed (Some words) word
 found-by-halving words word r rising told = by r (searched words word r told (rises words rising))
@@ -210,7 +211,7 @@ found-by-halving words word r rising told = by r (searched words word r told (ri
 
 -- ---- the words that are left
 
--- what is not looked at yet is as it was, and below the bound
+-- what is not looked at yet is unchanged, and below the bound
 pub still-below : (bound : ℕ) (xs ys : List ℕ) (i word : ℕ) → All (λ x. x < bound) xs → drop i ys ≡ drop i xs → i < length xs
     → word ≡ get_or ys i word → word < bound
 still-below bound xs ys i word below rest within is =

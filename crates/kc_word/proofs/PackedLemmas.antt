@@ -68,7 +68,7 @@ ArePacked-none numbers e = record {
     place : (i : ℕ) → 62 - 2 * (i % 32) ≡ 2 * (31 - i % 32)
     place i = omega arith
 
--- ---- one code more
+-- ---- one more code
 
 -- a code in a number of its own, and one in the last number
 shifted : (c s : ℕ) → c < 4 → s ≤ 62 → c * 2 ^ s % 2 ^ 64 ≡ c * 2 ^ s
@@ -92,7 +92,7 @@ same-numbers v w n small_v small_w packed_v packed_w e =
         (λ h. sym (get_or-codes_of v n i 0 h) ∙ ap (λ cs. get_or cs i 0) e ∙ get_or-codes_of w n i 0 h)
         (λ h. packed_v.clear i h ∙ sym (packed_w.clear i h)) (cases_lt i n)
 
--- whether the numbers are the same tells whether the codes are
+-- whether the numbers are equal decides whether the codes are
 pub same-packed : (v w : List ℕ) (n m : ℕ) (same : Bool)
     → ((k : ℕ) → get_or v k 0 < 2 ^ 64) × ((k : ℕ) → get_or w k 0 < 2 ^ 64) → ArePacked v n × ArePacked w m
     → (n ≡ m) × (same ≡ bytes_eq v w) → same ≡ bytes_eq (codes_of v n) (codes_of w m)

@@ -1,4 +1,4 @@
--- Pieces as they are kept: their bytes, what one byte more changes, and that equal bytes are kept alike.
+-- Pieces as they are kept: their bytes, what one more byte changes, and that equal bytes are kept alike.
 use Rattle.std.proofs.Common.{◌≡◌, ℕ, ◌<◌, ⊎_elim, Bool, true, false, ◌||◌, cond, eqb, List, [], length, get_or, refl, ap, sym, ◌∙◌, arith, true≢false, lit<}
 use Rattle.std.proofs.lemmas.Bool.{cases_Bool, cases_lt, cond-true, cond-false, cond_both, or_left}
 use Rattle.std.proofs.lemmas.Bool.Decides.{same_from_decides, Decides-like}
@@ -53,7 +53,7 @@ byte_at-letter codes runs i small =
     cond_both (is_in_runs runs i) unusable (base (get_or codes i 0)) (λ b. (is_base b || eqb b unusable) ≡ true)
     (λ _. unusable-letter) (λ _. or_left (is_base (base (get_or codes i 0))) _ (base-byte (get_or codes i 0) small))
 
--- ---- one byte more
+-- ---- one more byte
 
 -- ---- equal bytes are kept alike
 
@@ -108,7 +108,7 @@ kept-alike codes others runs gaps piece other same = record {
     byte i h = sym (get_or-bytes_of codes runs i 0 h) ∙ ap (λ xs. get_or xs i 0) same
         ∙ get_or-bytes_of others gaps i 0 (let e = sym (length-bytes_of codes runs) ∙ ap length same ∙ length-bytes_of others gaps in omega (arith, h, e))
 
--- whether the runs are the same tells whether pieces of the same codes are
+-- whether the runs are equal decides whether pieces with the same codes are
 pub same-kept : (codes others : List ℕ) (runs gaps : List Run) (same : Bool) → IsPiece codes runs × IsPiece others gaps → codes ≡ others
     → Decides same (runs ≡ gaps) → same ≡ bytes_eq (bytes_of codes runs) (bytes_of others gaps)
 same-kept codes others runs gaps same pieces e decided =
@@ -123,7 +123,7 @@ other-codes codes others runs gaps piece other ne =
     ⊎_elim (λ h. absurd (ne (kept-alike codes others runs gaps piece other ((bytes_eq-Decides (bytes_of codes runs) (bytes_of others gaps)).0 h)).codes_are))
     (λ h. sym h) (cases_Bool (bytes_eq (bytes_of codes runs) (bytes_of others gaps)))
 
--- ---- the byte that a code stands for
+-- ---- the byte of a code
 
 pub base-code : (byte : ℕ) → is_base byte ≡ true → base (code byte) ≡ byte
 unfolding base code

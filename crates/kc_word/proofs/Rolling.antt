@@ -1,4 +1,5 @@
--- A word and its reverse complement, rolled along the bytes of a piece: two numbers and the length of the run of bases that ends here.
+-- A word and its reverse complement, rolled along the bytes of a piece: two numbers and the length of the run of bases
+-- that ends here.
 use Rattle.std.proofs.Common.{◌≡◌, ℕ, zero, suc, ◌+◌, ◌-◌, ◌*◌, ◌/◌, ◌%◌, ◌^◌, ◌<◌, ◌≤◌, min, ⊎_elim, Bool, true, false, ◌&&◌, cond, leb, List, [], ◌∷◌, ◌++◌, map, reverse, length, get_or, take, drop, replicate, Some, None, refl, ap, sym, ◌∙◌, subst, arith, pow-suc, bit_and, lit<, add_comm}
 use Rattle.std.proofs.lemmas.Bool.{cases_Bool, cond-true, cond-false, cond_both, and_parts, le-leb, lt-leb, cases_lt}
 use Rattle.std.proofs.lemmas.Nat.{mod-mul-add, and_mask}
@@ -155,7 +156,7 @@ take-reverse k n xs e =
     ap (λ ys. take k (reverse ys)) (sym (take-append-drop n xs)) ∙ ap (take k) (reverse-append (take n xs) (drop n xs))
     ∙ take_at (reverse (drop n xs)) (reverse (take n xs)) k (length-reverse (drop n xs) ∙ length-drop n xs ∙ omega (arith, e))
 
--- the run is as long as a window exactly where the window holds bases alone
+-- the run is as long as a window exactly if the window has only bases
 run_of-covers : (k : ℕ) (bytes : List ℕ) → leb k (run_of k bytes) ≡ are_bases (map to_ascii_uppercase (last_window k bytes))
 unfolding run_of last_window
 run_of-covers k bytes =
@@ -167,7 +168,7 @@ run_of-covers k bytes =
     ∙ list_all-reverse is_letter (drop (length bytes) (replicate k unusable ++ bytes))
     ∙ sym (list_all-map is_base to_ascii_uppercase (drop (length bytes) (replicate k unusable ++ bytes)))
 
--- ---- the numbers of a window that holds bases alone
+-- ---- the numbers of a window that has only bases
 
 codes-window : (window : List ℕ) → list_all is_letter window ≡ true → map code (map to_ascii_uppercase window) ≡ map digit_of window
 unfolding digit_of
@@ -236,7 +237,7 @@ IsRolled-none k now front back run = record {
   run_is = run ∙ sym (run_of-none k);
 }
 
--- the two numbers and the run before a code and behind it
+-- the two numbers and the run before a code and after it
 pub record RollStep (k found : ℕ) (old new : Rolled) : Type 0 where
   pub forward_is : new.forward ≡ (old.forward * 4 + bit_and found 3) % 4 ^ k
   pub backward_is : new.backward ≡ old.backward / 4 + (3 - bit_and found 3) * 4 ^ (k - 1)
@@ -299,7 +300,7 @@ IsRolled-backward-lt {k} {seen} {now} rolled =
     let value = rolled.backward_is in
     omega (arith, small, turned, value)
 
--- where the run covers a window, the word of the last window is the one that both numbers give
+-- if the run covers a window, the word of the last window is the one that both numbers give
 pub word_of-rolled : (k : ℕ) (both : Bool) (seen : List ℕ) (now : Rolled) → IsRolled k seen now → k ≤ now.run
     → word_of both (last_window k seen) ≡ Some (cond both (min now.backward now.forward) now.forward)
 unfolding word_of form

@@ -1,4 +1,5 @@
--- Runs that rise: where no index lies in one, what one index more changes, and that runs with the same indices are the same.
+-- Ascending runs: where no index is in one, what one more index changes, and that runs with the same indices are the
+-- same.
 use Rattle.std.proofs.Common.{◌≡◌, ◌≢◌, ℕ, zero, suc, ◌+◌, ◌-◌, ◌<◌, ◌≤◌, ⊎_elim, Bool, true, false, ◌&&◌, ◌||◌, leb, List, [], ◌∷◌, ◌++◌, length, get_or, take, drop, set, refl, ap, sym, ◌∙◌, subst, arith, true≢false, Decides, eqb, eqb-true, eq-eqb}
 use Rattle.std.proofs.lemmas.Bool.{cases_lt, and_parts, and_from, and_left, and_right, or_left, or_right, le-leb, leb-true, leb-false, lt-leb, lt-ltb, le-ltb}
 use Rattle.std.proofs.lemmas.List.{get_or_read, take_more, take_all, set_at, length-take-le, drop_all, drop_more, get_or_default}
@@ -84,7 +85,7 @@ AreRuns-last from to (run ∷ runs) last rising =
     let start = rising.0 in
     ((rising.0, rising.1, omega (arith, above), rest.0), rest.1, omega (arith, above, start), rest.3)
 
--- one run more, which starts behind the others and doesn't touch them
+-- one more run, which starts after the others and doesn't touch them
 AreRuns-push : (from to end : ℕ) (runs : List Run) (run : Run) → (from ≤ run.start) × (to < run.start) × (1 ≤ run.length) × (run_end run ≤ end)
     → AreRuns from to runs → AreRuns from end (runs ++ run ∷ [])
 AreRuns-push from to end [] run stands rising = (stands.0, stands.2, stands.3, tt)
@@ -110,7 +111,7 @@ AreRuns-grown from to end (r ∷ runs) last grown grows rising =
     let above = (AreRuns-last (run_end r + 1) to runs last rising.3).2 in
     (rising.0, rising.1, omega (arith, above, same, within), AreRuns-grown (run_end r + 1) to end runs last grown grows rising.3)
 
--- ---- one index more
+-- ---- one more index
 
 -- a list that isn't empty, split before its last element
 split-last : (runs : List Run) (n : ℕ) (d : Run) → suc n ≡ length runs → runs ≡ take n runs ++ get_or runs n d ∷ []
@@ -120,7 +121,7 @@ split-last runs n d e =
 split-read : (runs : List Run) (n : ℕ) (last : Run) → suc n ≡ length runs → last ≡ get_or runs n last → runs ≡ take n runs ++ last ∷ []
 split-read runs n last e is = split-last runs n last e ∙ ap (λ run. take n runs ++ run ∷ []) (sym is)
 
--- the last of runs that rise to an index
+-- the last of ascending runs up to an index
 pub record IsLastRun (to : ℕ) (runs : List Run) (n : ℕ) (last : Run) : Type 0 where
   pub count : suc n ≡ length runs
   pub rising : AreRuns 0 to runs
@@ -162,7 +163,7 @@ unfolding new_run
 new-above at count runs i h =
     is_in_runs-push runs (new_run at count) i ∙ or-first (is_in_runs runs i) _ (behind-run (new_run at count) i h)
 
--- indices behind the runs, which a new run has
+-- indices after the runs, which a new run has
 pub AreGrown-first : (at count : ℕ) (runs : List Run) → 1 ≤ count → runs ≡ []
     → AreGrown runs (runs ++ record { start = at; length = count } ∷ []) at count
 unfolding new_run
@@ -234,9 +235,9 @@ AreGrown-longer {at} {n} {runs} {last} count found end = record {
         ∙ ap (λ b. is_in_runs (take n runs) i || b) h
         ∙ sym (ap (λ rs. is_in_runs rs i) split ∙ is_in_runs-push (take n runs) last i)
 
--- ---- runs behind runs
+-- ---- runs after runs
 
--- the runs with others behind them, which are counted from an index
+-- the runs with others after them, which are counted from an index
 pub record AreJoined (runs others next : List Run) (at : ℕ) : Type 0 where
   pub rising : (end : ℕ) → AreRuns 0 end others → AreRuns 0 (at + end) next
   pub before : (i : ℕ) → i < at → is_in_runs next i ≡ is_in_runs runs i
@@ -265,7 +266,7 @@ AreRuns-front from to (suc n) [] rising = tt
 AreRuns-front from to (suc n) (run ∷ runs) rising =
     (rising.0, rising.1, rising.2, AreRuns-front (run_end run + 1) to n runs rising.3)
 
--- one run more of the others, and what the runs are once it is appended
+-- one more run of the others, and what the runs are once it is appended
 pub record JoinStep (runs others : List Run) (at : ℕ) : Type 0 where
   pub run : Run
   pub before : List Run
@@ -367,7 +368,7 @@ same-runs from to other_to (run ∷ runs) (other ∷ others) rising other_rising
 
 -- ---- runs that are passed, index by index
 
--- behind all runs
+-- after all runs
 pub past-all : (runs : List Run) (next at : ℕ) → ArePassed runs next at → next ≡ length runs → (false ≡ is_in_runs runs at) × ArePassed runs next (at + 1)
 past-all runs next at passed e =
     let none : drop next runs ≡ [] = drop_all next runs (omega (arith, e)) in (
@@ -380,7 +381,7 @@ past-all runs next at passed e =
       },
     )
 
--- a run and what is left behind it
+-- a run and what is left after it
 record IsAhead (runs : List Run) (next : ℕ) (run : Run) : Type 0 where
   split : drop next runs ≡ run ∷ drop (next + 1) runs
   to : ℕ
@@ -448,7 +449,7 @@ behind-next runs next at run passed h is end =
 
 -- ---- indices before the next run
 
--- none of so many indices from an index on lies in a run, and the same runs are passed behind them
+-- none of so many indices from an index on is in a run, and the same runs are passed after them
 pub record AreFree (runs : List Run) (next at n : ℕ) : Type 0 where
   pub passed : ArePassed runs next (at + n)
   pub free : (i : ℕ) → at ≤ i → i < at + n → is_in_runs runs i ≡ false
@@ -487,7 +488,7 @@ free-before runs next at n run passed here low =
           ∙ before-runs run.start ahead.to i (run ∷ drop (next + 1) runs) (omega (arith, m, low)) (omega arith, rising.1, rising.2, rising.3);
     }
 
--- as many indices as come before the run, or none where it has begun
+-- as many indices as come before the run, or none if it has begun
 pub free-most : (runs : List Run) (next at n : ℕ) (run : Run) → ArePassed runs next at → IsRunAt runs next run
     → n ≤ run.start - at → AreFree runs next at n
 free-most runs next at n run passed here most =
@@ -607,7 +608,7 @@ dropped-with {run} from to (suc n) at (r ∷ runs) rising here end =
       omega (arith, above, start),
     )
 
--- ---- the first run that ends behind an index
+-- ---- the first run that ends after an index
 
 ends-above : (from to j : ℕ) (d : Run) (runs : List Run) → AreRuns from to runs → j < length runs → from ≤ run_end (get_or runs j d)
 ends-above from to j d [] rising h = absurd (omega (arith, h))

@@ -1,4 +1,4 @@
--- Batches are equal where they are the same.
+-- Batches are equal if they are the same.
 use Rattle.std.proofs.Common.{◌≡◌, eqb, refl, ap, eqb-true, eq-eqb, Decides}
 use Rattle.std.proofs.lemmas.Bool.{and_parts, and_from}
 use Rattle.std.proofs.lemmas.Slice.Eq.{bytes_eq-Decides, slice_eq-Decides}
@@ -6,7 +6,7 @@ use Rattle.std.specs.Cmp.Lexicographic.{pointwise}
 use Rattle.std.specs.Str.{bytes_eq}
 use Rattle.kc_word.specs.Cutting.{NumberedPieces, is_same_batch}
 
--- batches are equal where their numbers and pieces are
+-- batches are equal if their numbers and pieces are
 pub is_same_batch-Decides : (batch other : NumberedPieces) → Decides (is_same_batch batch other) (batch ≡ other)
 is_same_batch-Decides batch other =
     let pieces = slice_eq-Decides bytes_eq-Decides batch.pieces other.pieces

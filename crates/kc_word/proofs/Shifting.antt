@@ -99,7 +99,7 @@ code-joined-next v w m i most low h =
     ∙ sym (at-digit (w / 2 ^ (2 * (32 - m))) i low) ∙ ap (code_in (w / 2 ^ (2 * (32 - m)))) place
     ∙ code-down w (32 - m) (m + i - 32) (omega (arith, low, most, h))
 
--- cut off behind the first n codes
+-- cut off after the first n codes
 
 pub code-front : (w n i : ℕ) → n ≤ 32 → i < n
     → code_in (w / 2 ^ (64 - 2 * n) * 2 ^ (64 - 2 * n) % 2 ^ 64) i ≡ code_in w i
@@ -116,7 +116,7 @@ code-behind w n i most low h =
     ap (λ e. code_in (w / 2 ^ e * 2 ^ e % 2 ^ 64) i) place
     ∙ code-up-none (w / 2 ^ (2 * (32 - n))) (32 - n) i (omega arith) low (omega (arith, h, most))
 
--- ---- a number behind whole numbers
+-- ---- a number after whole numbers
 
 pub range-joined : (f g h : ℕ → ℕ) (n m : ℕ) → ((i : ℕ) → i < n → f i ≡ g i) → ((i : ℕ) → i < m → f (n + i) ≡ h i)
     → map f (range_with_len 0 (n + m)) ≡ map g (range_with_len 0 n) ++ map h (range_with_len 0 m)
@@ -134,7 +134,7 @@ range-joined f g h n (suc m) front back =
     ∙ ap (λ xs. map g (range_with_len 0 n) ++ xs) (sym (map-range_with_len_more h 0 m m (omega arith))
     ∙ ap (λ i. map h (range_with_len 0 i)) last)
 
--- the numbers, of n codes that fill them, with the first codes of one number more
+-- the numbers, of n codes that fill them, with the first codes of one more number
 pub record IsFilled (numbers next : List ℕ) (n count number : ℕ) : Type 0 where
   pub packed : ArePacked next (n + count)
   pub codes : codes_of next (n + count) ≡ codes_of numbers n ++ codes_in number count

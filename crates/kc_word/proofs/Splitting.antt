@@ -1,4 +1,4 @@
--- Pieces that are kept one behind another, and where each of them ends.
+-- Pieces that are stored one after another, and where each of them ends.
 use Rattle.std.proofs.Common.{◌≡◌, ◌≢◌, ℕ, zero, suc, ◌+◌, ◌-◌, ◌<◌, ◌≤◌, ⊎_elim, Bool, false, List, [], ◌∷◌, ◌++◌, length, get_or, take, drop}
 use Rattle.std.proofs.Common.{map, slice_range, refl, ap, sym, ◌∙◌, subst, arith}
 use Rattle.std.proofs.lemmas.Bool.{cases_lt, cases_Bool}
@@ -33,7 +33,7 @@ pieces_in-none bytes = refl
 pub AreEnds-none : AreEnds [] 0
 AreEnds-none = record { rising = λ i h. absurd (omega (arith, h)); last = refl }
 
--- what stands at the next place of the starts is the end
+-- the next of the starts is the end
 pub start-next : (ends : List ℕ) (i : ℕ) → start_of ends (i + 1) ≡ get_or ends i 0
 start-next ends i = let next : i + 1 ≡ suc i = omega arith in ap (start_of ends) next
 
@@ -90,7 +90,7 @@ bounds-read bytes ends i start end are h first last =
           ∙ sym (get_or-pieces_in bytes ends i [] h);
     }
 
--- ---- one piece more
+-- ---- one more piece
 
 -- bytes up to an index within the first ones are theirs
 front-cut : (bytes part : List ℕ) (from to : ℕ) → from ≤ to → to ≤ length bytes
@@ -101,7 +101,7 @@ front-cut bytes part from to ordered h =
     ∙ ap (drop from) (take-append-le (from + (to - from)) bytes part all)
     ∙ drop-take from (to - from) bytes
 
--- those behind the first ones are the others
+-- those after the first ones are the others
 back-cut : (bytes part : List ℕ)
     → take (length (bytes ++ part) - length bytes) (drop (length bytes) (bytes ++ part)) ≡ part
 back-cut bytes part =
@@ -134,7 +134,7 @@ last-piece bytes part ends are =
     ∙ ap (λ e. slice_range (bytes ++ part) (length bytes) e) (last-pushed ends (length (bytes ++ part)))
     ∙ back-cut bytes part
 
--- the bytes with others behind them, and one end more
+-- the bytes with others after them, and one end more
 pub record IsPushed (bytes part ends all all_ends : List ℕ) : Type 0 where
   pub ends_are : AreEnds all_ends (length all)
   pub pieces_are : pieces_in all all_ends ≡ pieces_in bytes ends ++ part ∷ []

@@ -4,7 +4,7 @@ use Rattle.std.proofs.Common.{◌∙◌, sym, subst, arith}
 use Rattle.std.proofs.lemmas.Nat.{le-div, pow_pos, pow-add}
 use Rattle.std.specs.List.Sorted.{IsStrictlyIncreasing}
 
--- a number of a rising list is at least its place
+-- a number of an ascending list is at least its place
 at_place : (words : List ℕ) (i : ℕ) → IsStrictlyIncreasing words → i < length words → i ≤ get_or words i 0
 at_place words zero rising within = omega arith
 at_place words (suc i) rising within =
@@ -39,7 +39,7 @@ enough_prefixes count (suc last) top (suc high) below least within bits fits =
     let quarter : count ≤ 4 * (suc last / 2 ^ shift + 1) = omega (arith, below, double, power, long) in
     subst (λ n. count ≤ 4 * (suc last / 2 ^ n + 1)) (sym is) quarter
 
--- a rising list has at least one start for four words
+-- an ascending list has at least one start for four words
 pub many_starts : (words : List ℕ) (last shift starts : ℕ) → IsStrictlyIncreasing words
     → (0 < length words → get_or words (length words - 1) 0 ≡ last)
     → (length words ≤ last + 1 → length words ≤ 4 * (last / 2 ^ shift + 1))

@@ -1,4 +1,5 @@
--- The stretches of pieces with a running number, along which the code goes: `first` is the number of the first position of the first piece.
+-- The stretches of pieces with a running number, along which the code goes: `first` is the number of the first position
+-- of the first piece.
 use Rattle.std.proofs.Common.{◌≡◌, ℕ, zero, suc, ◌+◌, ◌-◌, min, List, [], ◌∷◌, ◌++◌, length, get_or, map, take, refl, ap, sym, ◌∙◌, arith, add_assoc, zero-add}
 use Rattle.std.specs.List.{range_with_len, flat_map}
 use Rattle.std.proofs.lemmas.List.Sums.{sum_by-cons}
@@ -12,7 +13,7 @@ stretches_from k low high first (piece ∷ pieces) =
     stretch k piece (low - first) (min (position_count k (length piece)) (high - first))
     ++ stretches_from k low high (first + position_count k (length piece)) pieces
 
--- piece j, where the first position of the first piece has the number `first`
+-- piece j, if the first position of the first piece has the number `first`
 part_at : ℕ → ℕ → ℕ → ℕ → List (List ℕ) → ℕ → List (List ℕ)
 part_at k low high first pieces j =
     stretch k (get_or pieces j []) (low - (first + position_total k (take j pieces)))

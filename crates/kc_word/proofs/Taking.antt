@@ -1,4 +1,4 @@
--- What stretches are where no position is left, and where one piece more comes.
+-- What stretches are if no position is left, and if one more piece comes.
 use Rattle.std.proofs.Common.{◌≡◌, ℕ, zero, suc, ◌+◌, ◌-◌, ◌<◌, ◌≤◌, min, List, [], ◌∷◌, ◌++◌, length, take, drop, slice_range, refl, ap, sym, ◌∙◌, arith, append_assoc}
 use Rattle.std.proofs.lemmas.Bool.{cond-true, cond-false, lt-ltb, le-ltb}
 use Rattle.std.proofs.lemmas.List.{append-nil}
@@ -11,7 +11,7 @@ pub stretch-empty : (k : ℕ) (piece : List ℕ) (p q : ℕ) → q ≤ p → str
 unfolding stretch
 stretch-empty k piece p q h = cond-false _ (slice_range piece p (q + k - 1) ∷ []) [] (le-ltb p q h)
 
--- what lies before the first number is passed over
+-- what lies before the first number is skipped
 pub stretches-skip : (k low high first index : ℕ) (pieces : List (List ℕ)) → first + position_total k (take index pieces) ≤ low
     → stretches_from k low high first pieces ≡ stretches_from k low high (first + position_total k (take index pieces)) (drop index pieces)
 unfolding stretches_from
@@ -51,7 +51,7 @@ stretches-append k low high first (piece ∷ pieces) more =
     (stretches_from k low high (first + position_count k (length piece)) pieces)
     (stretches_from k low high (first + position_total k (piece ∷ pieces)) more))
 
--- with one piece more they are those of the pieces before it, and its own
+-- with one more piece they are those of the pieces before it, and its own
 pub stretches-push : (k low high : ℕ) (pieces : List (List ℕ)) (piece : List ℕ) → stretches k low high (pieces ++ piece ∷ [])
     ≡ stretches k low high pieces
     ++ stretch k piece (low - position_total k pieces) (min (position_count k (length piece)) (high - position_total k pieces))
@@ -63,7 +63,7 @@ stretches-push k low high pieces piece =
     (append-nil (stretch k piece (low - (0 + position_total k pieces)) (min (position_count k (length piece)) (high - (0 + position_total k pieces))))
     ∙ ap (λ n. stretch k piece (low - n) (min (position_count k (length piece)) (high - n))) (omega arith))
 
--- behind the last position it is the same where the taking ends
+-- after the last position it is the same if the taking ends
 stretches-wide : (k low high other first : ℕ) (pieces : List (List ℕ)) → first + position_total k pieces ≤ high
     → first + position_total k pieces ≤ other → stretches_from k low high first pieces ≡ stretches_from k low other first pieces
 unfolding stretches_from

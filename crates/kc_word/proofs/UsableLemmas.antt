@@ -47,7 +47,7 @@ unfolding is_usable
 usable_code-low rule read j low =
     sym (cond-false _ (code (to_ascii_uppercase (get_or read.bases j 0))) 4 (and_right (is_base (to_ascii_uppercase (get_or read.bases j 0))) _ low))
 
--- it is the code of the byte that stands for the base in the piece of the read
+-- it is the code of the byte in place of the base in the piece of the read
 code-cleaned : (usable : Bool) (b found : ℕ) → (usable ≡ true → is_base b ≡ true) → found ≡ cond usable b unusable
     → cond usable (code b) 4 ≡ cond (is_base (to_ascii_uppercase found)) (code (to_ascii_uppercase found)) 4
 unfolding is_base
@@ -267,7 +267,7 @@ usable-all rule read n codes runs all is gaps = record {
         (λ u. let value : usable_code rule read i ≡ 4 = cond-false _ (code (to_ascii_uppercase (get_or read.bases i 0))) 4 u in omega (arith, value))
         (cases_Bool (is_usable rule read i))
 
--- what the test of the codes seen tells
+-- the result of the test of the codes seen so far
 pub few-seen : (seen : ℕ) → leb 4 seen ≡ false → seen < 4
 few-seen seen h = ⊎_elim (λ l. l) (λ l. absurd (true≢false (sym (le-leb 4 seen l) ∙ h))) (cases_lt seen 4)
 

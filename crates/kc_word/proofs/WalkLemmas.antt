@@ -1,4 +1,4 @@
--- The words of a piece that are left, byte by byte, and the pieces that are left behind it.
+-- The words of a piece that are left, byte by byte, and the pieces that are left after it.
 use Rattle.std.proofs.Common.{◌≡◌, ℕ, zero, suc, ◌+◌, ◌-◌, ◌^◌, ◌<◌, ◌≤◌, min, ⊎_elim, cond, List, [], ◌∷◌, ◌++◌, length, get_or, take, drop, Option, None, Some, IfSome, IfNone, option_to_list, refl, ap, sym, ◌∙◌, subst, arith}
 use Rattle.std.proofs.lemmas.Bool.{cases_lt}
 use Rattle.std.proofs.lemmas.List.{take_more, take_all, drop_at, drop_all, drop_more, append-nil, append_assoc, append_cancel_left}
@@ -22,7 +22,7 @@ words_in-more rule bytes i h =
     ap (λ xs. words_in rule (read_of xs None)) more ∙ words_in_push rule (take i bytes) (get_or bytes i 0)
     ∙ ap (λ xs. words_in rule (read_of (take i bytes) None) ++ option_to_list (counted_word rule (last_window rule.k xs))) (sym more)
 
--- the words of a front of the bytes are a front of the words
+-- the words of a prefix of the bytes are a prefix of the words
 front_of-words : (rule : CountingRule) (bytes : List ℕ) (m i : ℕ) → i + m ≡ length bytes
     → (rest : List ℕ) × (words_in rule (read_of bytes None) ≡ words_in rule (read_of (take i bytes) None) ++ rest)
 front_of-words rule bytes zero i e =
@@ -67,7 +67,7 @@ words_left-end walking h =
     ap (λ xs. drop (length (words_in walking.rule (read_of xs None))) (words_in walking.rule (read_of walking.bytes None))) (take_all walking.taken walking.bytes h)
     ∙ drop_all (length (words_in walking.rule (read_of walking.bytes None))) (words_in walking.rule (read_of walking.bytes None)) (omega arith)
 
--- ---- one byte more
+-- ---- one more byte
 
 pub IsWalking-none : (rule : CountingRule) (bytes : List ℕ) (now : Rolled) → now.rule ≡ rule → rule.only ≡ None
     → IsRolled rule.k [] now → now.run ≡ 0 → length bytes < 2 ^ 64 → IsWalking (at_front rule bytes) now
@@ -80,7 +80,7 @@ IsWalking-none rule bytes now same none rolled run fits = record {
   fits = fits;
 }
 
--- the numbers and the run behind the next byte
+-- the numbers and the run after the next byte
 pub IsWalking-more : (walking : Walking) (old new : Rolled) (next : ℕ) → 1 ≤ walking.rule.k → IsNext walking old next
     → new.rule ≡ old.rule → RollStep walking.rule.k next old new → IsWalking (behind_next walking) new
 IsWalking-more walking old new next some here same step =
@@ -99,7 +99,7 @@ IsWalking-more walking old new next some here same step =
       fits = here.walks.fits;
     }
 
--- the words that are left before the next byte, where its window holds this word, or none
+-- the words that are left before the next byte, if its window has this word, or none
 words-taken : (walking : Walking) (now : Rolled) (word : Option ℕ) → walking.taken < length walking.bytes → IsWalking (behind_next walking) now
     → word_of walking.rule.both (last_window walking.rule.k (take (walking.taken + 1) walking.bytes)) ≡ word → IsTaken walking now word
 words-taken walking now word left walks is = record {
@@ -109,7 +109,7 @@ words-taken walking now word left walks is = record {
       (counted_word-unlisted walking.rule (last_window walking.rule.k (take (walking.taken + 1) walking.bytes)) walks.unlisted ∙ is);
 }
 
--- it ends a word where the run covers one
+-- it ends a word if the run covers one
 pub word-taken : (walking : Walking) (now : Rolled) (word : ℕ) → walking.taken < length walking.bytes → IsWalking (behind_next walking) now
     → walking.rule.k ≤ now.run → word ≡ cond walking.rule.both (min now.backward now.forward) now.forward → IsTaken walking now (Some word)
 word-taken walking now word left walks h e =
@@ -131,9 +131,9 @@ pub taken-none : (word : Option ℕ) (before behind : List ℕ) → before ≡ o
 taken-none (Some word) before behind is = tt
 taken-none None before behind is = sym is
 
--- ---- one piece after another
+-- ---- piece after piece
 
--- the words of the pieces from an index on are those of the first of them and those of the pieces behind it
+-- the words of the pieces from an index on are those of the first of them and those of the pieces after it
 pub words_of-at : (rule : CountingRule) (pieces : List (List ℕ)) (i : ℕ) (left : List ℕ) → i < length pieces
     → left ≡ words_in rule (read_of (get_or pieces i []) None)
     → left ++ words_of rule (as_reads (drop (i + 1) pieces)) ≡ words_of rule (as_reads (drop i pieces))

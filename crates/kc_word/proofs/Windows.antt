@@ -1,4 +1,5 @@
--- The words of a piece, window by window: a piece has a window of k bytes at each position, and one more byte adds at most one window at its end.
+-- The words of a piece, window by window: a piece has a window of k bytes at each position, and one more byte adds at
+-- most one window at its end.
 use Rattle.std.proofs.Common.{◌≡◌, ℕ, zero, suc, ◌+◌, ◌-◌, ◌<◌, ◌≤◌, ⊎_elim, Bool, true, false, ◌&&◌, cond, List, [], ◌∷◌, ◌++◌, map, length, get_or, take, drop, replicate, Option, Some, None, option_map, option_to_list, filter_map, refl, ap, sym, ◌∙◌, arith}
 use Rattle.std.proofs.lemmas.Bool.{cases_lt, le-leb}
 use Rattle.std.proofs.lemmas.List.{length_push, length-replicate, length-append, drop_more, take-append-le, drop-append-le, take_all, length-drop, drop_at, drop-drop, append_assoc, replicate-append-replicate}
@@ -17,15 +18,15 @@ use Rattle.kc_word.specs.Walking.{last_window}
 use Rattle.kc_kmer.specs.Occurrences.{is_usable, word_at, form_at, where_listed, counted_at, position_count, words_in}
 use Rattle.kc_kmer.proofs.ListedLemmas.{each_listed}
 
--- the number of the word that a window holds, in its form, where all its bytes are bases
+-- the number of the word in a window, in its form, if all its bytes are bases
 unfoldable pub word_of : Bool → List ℕ → Option ℕ
 word_of both window = cond (are_bases (map to_ascii_uppercase window)) (Some (number (form both (map to_ascii_uppercase window)))) None
 
--- the word that a window holds, in its form, where all its bytes are bases
+-- the word in a window, in its form, if all its bytes are bases
 unfoldable pub window_form : Bool → List ℕ → Option (List ℕ)
 window_form both window = cond (are_bases (map to_ascii_uppercase window)) (Some (form both (map to_ascii_uppercase window))) None
 
--- the same where the word counts: where a list is given, only its words do
+-- the same if the word counts: if a list is given, only its words do
 unfoldable pub counted_form : CountingRule → List ℕ → Option (List ℕ)
 counted_form rule window = option_and_then (where_listed rule.only) (window_form rule.both window)
 
@@ -78,7 +79,7 @@ pub counted_at-window : (rule : CountingRule) (bytes : List ℕ) (p : ℕ) → p
 unfolding counted_at counted_form
 counted_at-window rule bytes p h = ap (option_and_then (where_listed rule.only)) (form_at-window_form rule bytes p h)
 
--- where no list is given, the word of each window counts
+-- if no list is given, the word of each window counts
 pub counted_word-unlisted : (rule : CountingRule) (window : List ℕ) → rule.only ≡ None → counted_word rule window ≡ word_of rule.both window
 unfolding counted_word counted_form window_form word_of
 counted_word-unlisted rule window none =

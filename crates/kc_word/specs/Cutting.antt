@@ -1,4 +1,4 @@
--- Cleaned pieces, and how they are cut into numbered batches of as many positions each.
+-- Cleaned pieces, and how they are cut into numbered batches with equally many positions.
 -- Source: this project's own; a batch is what one worker counts at a time.
 use Rattle.std.specs.Prelude.{◌≡◌, ℕ, Bool, ◌+◌, ◌-◌, ◌*◌, ◌/◌, ◌==◌, ◌&&◌, ◌||◌, nat_lt, min, List, [], ◌∷◌}
 use Rattle.std.specs.Prelude.{length, map, take, slice_range, slice_index, slice_index_or, None, if◌then◌else◌}
@@ -12,7 +12,7 @@ use Rattle.kc_kmer.specs.Letter.{is_base}
 use Rattle.kc_kmer.specs.Rule.{CountingRule}
 use Rattle.kc_kmer.specs.Occurrences.{is_usable, position_count, occurrences, words_of}
 
--- the letter N, which stands for a base that is not usable
+-- the letter N, in place of a base that is not usable
 abbrev pub unusable : ℕ
 unusable = 78
 
@@ -23,7 +23,7 @@ is_piece_byte byte = is_base byte || byte == unusable
 abbrev pub are_piece_bytes : List ℕ → Bool
 are_piece_bytes bytes = list_all is_piece_byte bytes
 
--- the base j of a read as it stands in its piece: in upper case where it is usable, and else N
+-- base j of a read in its piece: in upper case if it is usable, otherwise N
 abbrev pub cleaned_base : CountingRule → Read → ℕ → ℕ
 cleaned_base rule read j = if is_usable rule read j then to_ascii_uppercase (slice_index read.bases j) else unusable
 
@@ -40,8 +40,8 @@ pub record NumberedPieces : Type 0 where
   pub number : ℕ
   pub pieces : List (List ℕ)
 
--- the positions from p to before q of a piece, as one piece: the bytes from p to the end of the last word. Nothing
--- where there is no position
+-- the positions from p to before q of a piece, as one piece: the bytes from p to the end of the last word; no piece if
+-- there is no such position
 unfoldable pub stretch : ℕ → List ℕ → ℕ → ℕ → List (List ℕ)
 stretch k piece p q = if nat_lt p q then slice_range piece p (q + k - 1) ∷ [] else []
 
@@ -49,28 +49,28 @@ stretch k piece p q = if nat_lt p q then slice_range piece p (q + k - 1) ∷ [] 
 abbrev pub position_total : ℕ → List (List ℕ) → ℕ
 position_total k pieces = sum_by (λ piece. position_count k (length piece)) pieces
 
--- The positions of all pieces are numbered in order: the number of the first position of piece j is how many
--- positions the pieces before it have.
+-- The positions of all pieces are numbered in order: the number of the first position of piece j is the number of
+-- positions in the pieces before it.
 abbrev pub first_position : ℕ → List (List ℕ) → ℕ → ℕ
 first_position k pieces j = position_total k (take j pieces)
 
--- the stretch of a piece whose first position has the number `first`: its positions with numbers from `low` to
--- before `high`
+-- the part of a piece whose first position has the number `first`: its positions with numbers from `low` to before
+-- `high`
 abbrev pub stretch_of : ℕ → ℕ → ℕ → List ℕ → ℕ → List (List ℕ)
 stretch_of k low high piece first =
     stretch k piece (low - first) (min (position_count k (length piece)) (high - first))
 
--- the stretches of all pieces
+-- these parts of all pieces
 unfoldable pub stretches : ℕ → ℕ → ℕ → List (List ℕ) → List (List ℕ)
 stretches k low high pieces =
     flat_map (λ j. stretch_of k low high (slice_index_or pieces j []) (first_position k pieces j))
     (range_with_len 0 (length pieces))
 
--- how many batches of `size` positions there are, of which the last may have fewer
+-- how many batches of `size` positions there are; the last may have fewer
 abbrev pub batch_count : ℕ → ℕ → List (List ℕ) → ℕ
 batch_count k size pieces = (position_total k pieces + size - 1) / size
 
--- batch i: the positions numbered from i * size to before (i + 1) * size
+-- batch i: the positions with the numbers from i * size to before (i + 1) * size
 abbrev pub batch_of : ℕ → ℕ → List (List ℕ) → ℕ → NumberedPieces
 batch_of k size pieces i = record { number = i; pieces = stretches k (i * size) ((i + 1) * size) pieces }
 
@@ -78,12 +78,12 @@ batch_of k size pieces i = record { number = i; pieces = stretches k (i * size) 
 unfoldable pub cutting : ℕ → ℕ → List (List ℕ) → List NumberedPieces
 cutting k size pieces = map (λ i. batch_of k size pieces i) (range_with_len 0 (batch_count k size pieces))
 
--- in the batches together each word occurs as often as in the pieces
+-- each word occurs in all batches together as often as in the pieces
 abbrev pub KeepsOccurrences : ℕ → List (List ℕ) → List NumberedPieces → Type 0
 KeepsOccurrences k pieces batches = (rule : CountingRule) (word : List ℕ) → rule.k ≡ k
     → sum_by (λ batch. occurrences rule (as_reads batch.pieces) word) batches ≡ occurrences rule (as_reads pieces) word
 
--- the words of the batches, one batch after another, are the words of the pieces
+-- the words of the batches, batch after batch, are the words of the pieces
 abbrev pub KeepsWords : ℕ → List (List ℕ) → List NumberedPieces → Type 0
 KeepsWords k pieces batches = (rule : CountingRule) → rule.k ≡ k
     → flat_map (λ batch. words_of rule (as_reads batch.pieces)) batches ≡ words_of rule (as_reads pieces)

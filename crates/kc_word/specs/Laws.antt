@@ -1,4 +1,4 @@
--- What holds of cleaned reads and of cuttings, whatever the reads are.
+-- Facts about cleaned reads and cuttings, for all reads.
 use Rattle.std.specs.Prelude.{◌≡◌, ℕ, ◌-◌, ◌*◌, min, ◌<◌, ◌≤◌, List, map, length, slice_index_or, sum_by}
 use Rattle.std.specs.List.{flat_map}
 use Rattle.kc_fastx.specs.Reads.{Read}
@@ -12,18 +12,18 @@ CuttingWords = (rule : CountingRule) (size : ℕ) (reads : List Read) → 1 ≤ 
     → flat_map (λ batch. words_of rule (as_reads batch.pieces))
     (cutting rule.k size (map (λ read. cleaned rule read) reads)) ≡ words_of rule reads
 
--- and each word occurs in all batches together as often as in the reads
+-- each word occurs in all batches together as often as in the reads
 abbrev pub CuttingOccurrences : Type 0
 CuttingOccurrences = (rule : CountingRule) (size : ℕ) (reads : List Read) (word : List ℕ) → 1 ≤ rule.k → 1 ≤ size
     → sum_by (λ batch. occurrences rule (as_reads batch.pieces) word)
     (cutting rule.k size (map (λ read. cleaned rule read) reads)) ≡ occurrences rule reads word
 
--- at index i of a cutting stands batch i
+-- element i of a cutting is batch i
 abbrev pub CuttingNumbers : Type 0
 CuttingNumbers = (k size i : ℕ) (pieces : List (List ℕ)) (d : NumberedPieces) → i < length (cutting k size pieces)
     → slice_index_or (cutting k size pieces) i d ≡ batch_of k size pieces i
 
--- the batches of a cutting have together as many positions as the pieces
+-- the batches of a cutting together have as many positions as the pieces
 abbrev pub CuttingPositions : Type 0
 CuttingPositions = (k size : ℕ) (pieces : List (List ℕ)) → 1 ≤ k → 1 ≤ size
     → sum_by (λ batch. position_total k batch.pieces) (cutting k size pieces) ≡ position_total k pieces
@@ -43,7 +43,7 @@ PositionsWithinBytes = (k : ℕ) (pieces : List (List ℕ)) → 1 ≤ k
 abbrev pub CleanedLength : Type 0
 CleanedLength = (rule : CountingRule) (read : Read) → length (cleaned rule read) ≡ length read.bases
 
--- cleaned into pieces, reads have the same words
+-- the pieces of reads have the same words as the reads
 abbrev pub CleanedWords : Type 0
 CleanedWords = (rule : CountingRule) (reads : List Read)
     → words_of rule (as_reads (map (λ read. cleaned rule read) reads)) ≡ words_of rule reads

@@ -7,7 +7,7 @@ use Rattle.std.specs.List.{range_with_len}
 abbrev pub number_count : ℕ → ℕ
 number_count n = (n + 31) / 32
 
--- code i of a number, from 0 to 31: the two bits that have those of the later bases below them
+-- code i of a number, for i from 0 to 31: two bits, above those of the later bases
 abbrev pub code_in : ℕ → ℕ → ℕ
 code_in number i = number / 2 ^ (62 - 2 * i) % 4
 
@@ -23,7 +23,7 @@ code_at numbers i = code_in (slice_index numbers (i / 32)) (i % 32)
 unfoldable pub codes_of : List ℕ → ℕ → List ℕ
 codes_of numbers n = map (λ i. code_at numbers i) (range_with_len 0 n)
 
--- the numbers are as many as n bases take, and all bits behind the last base are 0
+-- there are as many numbers as n bases take, and all bits after the last base are 0
 pub record ArePacked (numbers : List ℕ) (n : ℕ) : Type 0 where
   pub exact : length numbers ≡ number_count n
   pub clear : (i : ℕ) → n ≤ i → code_at numbers i ≡ 0

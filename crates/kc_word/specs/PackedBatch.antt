@@ -1,13 +1,13 @@
--- Pieces that are kept one behind another: all their bytes, and where each of them ends in these.
+-- Pieces stored one after another: all their bytes, and the index at which each of them ends.
 -- Source: this project's own.
 use Rattle.std.specs.Prelude.{◌≡◌, ℕ, ◌<◌, ◌≤◌, List, ◌∷◌, length, map, slice_index, slice_range}
 use Rattle.std.specs.List.{range_with_len}
 
--- where piece i begins: the first one at index 0, and each other one where the one before it ends
+-- where piece i begins: the first at index 0, each other one at the end of the one before it
 abbrev pub start_of : List ℕ → ℕ → ℕ
 start_of ends i = slice_index (0 ∷ ends) i
 
--- piece i: the bytes from where it begins to before where it ends
+-- piece i: the bytes from its begin to before its end
 abbrev pub piece_at : List ℕ → List ℕ → ℕ → List ℕ
 piece_at bytes ends i = slice_range bytes (start_of ends i) (slice_index ends i)
 

@@ -1,4 +1,4 @@
--- A piece as it is kept: the codes of its bases, and where it has N.
+-- A piece as it is stored: the codes of its bases, and where it has N.
 -- Source: this project's own.
 use Rattle.std.specs.Prelude.{◌≡◌, ℕ, true, ◌^◌, ◌<◌, ◌≤◌, List, length, map, slice_index, if◌then◌else◌}
 use Rattle.std.specs.List.{range_with_len}
@@ -7,7 +7,7 @@ use Rattle.kc_word.specs.Cutting.{unusable}
 use Rattle.kc_word.specs.declared.runs.Run.{Run}
 use Rattle.kc_word.specs.Runs.{is_in_runs, AreRuns, ArePassed}
 
--- the byte at index i: N in a run, and elsewhere the base that has the code
+-- the byte at index i: N in a run, elsewhere the base with the code
 abbrev pub byte_at : List ℕ → List Run → ℕ → ℕ
 byte_at codes runs i = if is_in_runs runs i then unusable else base (slice_index codes i)
 
@@ -15,7 +15,7 @@ byte_at codes runs i = if is_in_runs runs i then unusable else base (slice_index
 unfoldable pub bytes_of : List ℕ → List Run → List ℕ
 bytes_of codes runs = map (λ i. byte_at codes runs i) (range_with_len 0 (length codes))
 
--- the runs lie within the piece, and the code under a run is 0
+-- the runs lie within the piece, codes are below 4, and the codes under runs are 0
 pub record IsPiece (codes : List ℕ) (runs : List Run) : Type 0 where
   pub rising : AreRuns 0 (length codes) runs
   pub below : (i : ℕ) → slice_index codes i < 4
@@ -26,7 +26,7 @@ pub record Reading : Type 0 where
   pub bytes : List ℕ
   pub taken : ℕ
 
--- the place is one from an index to another of this piece, with as many runs passed as end before it
+-- the place `at` lies between two indices of this piece, and `next` runs are passed there
 pub record IsReading (codes : List ℕ) (runs : List Run) (next from at to : ℕ) : Type 0 where
   pub piece : IsPiece codes runs
   pub passed : ArePassed runs next at

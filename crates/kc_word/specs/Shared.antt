@@ -1,4 +1,4 @@
--- What shared batches hold.
+-- The contents of shared batches.
 use Rattle.std.specs.Prelude.{List, map}
 use Rattle.std.specs.declared.sync.Arc.{Arc}
 use Rattle.std.specs.declared.alloc.Global.{Global}

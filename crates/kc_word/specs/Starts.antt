@@ -2,13 +2,13 @@
 -- Source: Knuth, The Art of Computer Programming, volume 3, section 6.3: a dictionary's thumb index.
 use Rattle.std.specs.Prelude.{ℕ, ◌<◌, ◌≤◌, List, length, slice_index}
 
--- starts as a value: how many low bits of a word are not of its prefix, and for each prefix how many words have a
+-- starts as a value: how many low bits of a word are outside its prefix, and for each prefix how many words have a
 -- lesser one
 pub record PrefixStarts : Type 0 where
   pub shift : ℕ
   pub starts : List ℕ
 
--- the words before a place are less than a word, and those from a place on greater
+-- the words before a place are less than this word, and those from a place on are greater
 abbrev pub AreLesser : List ℕ → ℕ → ℕ → Type 0
 AreLesser words place word = (i : ℕ) → i < place → slice_index words i < word
 

@@ -1,4 +1,4 @@
--- A read as it is packed: the codes of its usable bases, and where it has none.
+-- A read as it is packed: the codes of its usable bases, and where bases are not usable.
 -- Source: this project's own.
 use Rattle.std.specs.Prelude.{◌≡◌, ℕ, Bool, false, ◌+◌, ◌%◌, ◌<◌, List, map, slice_index, nat_le, if◌then◌else◌}
 use Rattle.std.specs.List.{range_with_len}
@@ -11,20 +11,20 @@ use Rattle.kc_word.specs.Packed.{code_in}
 use Rattle.kc_word.specs.declared.runs.Run.{Run}
 use Rattle.kc_word.specs.Runs.{is_in_runs, AreRuns}
 
--- the code of base j where it is usable, and else 4
+-- the code of base j if it is usable, otherwise 4
 abbrev pub usable_code : CountingRule → Read → ℕ → ℕ
 usable_code rule read j = if is_usable rule read j then code (to_ascii_uppercase (slice_index read.bases j)) else 4
 
--- the first n codes, 0 where the base is not usable
+-- the first n codes, 0 for a base that is not usable
 unfoldable pub packed_codes : CountingRule → Read → ℕ → List ℕ
 packed_codes rule read n = map (λ j. usable_code rule read j % 4) (range_with_len 0 n)
 
--- a number has the codes from an index on, so many of them; where it is told that no base is missing, all are usable
+-- a number has `count` codes from index `from` on; if `has_gap` is false, all of these bases are usable
 pub record IsCodeBlock (rule : CountingRule) (read : Read) (from count number : ℕ) (has_gap : Bool) : Type 0 where
   pub codes : (i : ℕ) → i < count → code_in number i ≡ usable_code rule read (from + i) % 4
   pub usable : has_gap ≡ false → (i : ℕ) → i < count → usable_code rule read (from + i) < 4
 
--- the runs are those of the bases that are not usable, of the first n
+-- the runs are those of the bases that are not usable among the first n
 pub record AreGaps (rule : CountingRule) (read : Read) (n : ℕ) (runs : List Run) : Type 0 where
   pub rising : AreRuns 0 n runs
   pub gaps : (i : ℕ) → i < n → is_in_runs runs i ≡ nat_le 4 (usable_code rule read i)

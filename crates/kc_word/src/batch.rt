@@ -9,7 +9,7 @@ use crate::walk::Walk;
 use kc_kmer::{K, Rule};
 use std::marker::Model;
 
-/// A batch: a numbered part of the input, which is counted by itself. It has a number, and pieces.
+/// A batch: a numbered part of the input, which is counted on its own. It has a number, and pieces.
 #[derive(Debug, Drop)]
 pub struct Batch {
     pub(crate) number: u64,
@@ -49,7 +49,7 @@ impl Batch {
         count
     }
 
-    /// The pieces of the batch, in order, each seen as its bytes. It takes no memory.
+    /// The pieces of the batch, in order; the view of each is its bytes. It takes no memory.
     pub fn pieces(&self) -> PieceViews<'_>
         ensures { result ≡ self.now.pieces }
     {
@@ -59,8 +59,8 @@ impl Batch {
         }
     }
 
-    /// The words at the positions of the batch, without those that hold N, as numbers, in the forms under which
-    /// they count, in order: the items are what `words` gives of the batch. It takes no memory.
+    /// The words at the positions of the batch, without those that have an N, as numbers, in the forms under which they
+    /// count, in order: the items are what `words` returns for the batch. It takes no memory.
     pub fn walk(&self, rule: &Rule) -> Walk<'_>
         ensures { result ≡ words_of rule.now (as_reads self.now.pieces) }
     {

@@ -1,4 +1,4 @@
-//! The cutting of pieces into batches, one piece after another.
+//! The cutting of pieces into batches, piece by piece.
 ghost use Rattle.std.specs.Prelude.{◌≡◌, ◌≤◌, ◌++◌, ◌∷◌, [], List, ℕ, length, slice_range, IfOk, OnOk, OnErr};
 ghost use Rattle.kc_word.specs.Cutting.{cutting, KeepsOccurrences, KeepsWords};
 ghost use Rattle.kc_word.specs.OpenCutting.{HasTaken, HasTakenFront};
@@ -12,10 +12,10 @@ use std::alloc::{AllocError, Global};
 use std::marker::Model;
 use std::sync::Arc;
 
-/// A cutting under way: pieces that come one at a time are divided into batches, as `cut` does. It has the batches that
-/// are whole, and the one that is begun. It keeps the bytes of the pieces that it has taken, and not the pieces. The
-/// parts of the batch that is begun are packed one behind another only where it is whole, so that a refusal leaves them
-/// as they were.
+/// A cutting under way: pieces that come one at a time are divided into batches, as `cut` does. It has the whole
+/// batches, and the one that is begun. It keeps the bytes of the pieces that it has taken, and not the pieces. The
+/// parts of the batch that is begun are packed one after another only when it is whole, so a refusal leaves them
+/// unchanged.
 ///
 /// Contracts state which pieces it `HasTaken`.
 #[derive(Drop)]
@@ -46,7 +46,7 @@ impl Model for Cutting {
 }
 
 impl Cutting {
-    /// No pieces yet, to be cut for words of k bases into batches of `size` positions each. Condition: the size is at
+    /// A cutting without pieces, for words of k bases and batches of `size` positions each. Condition: the size is at
     /// least 1.
     pub fn new(alloc: Global, k: K, size: u64) -> Cutting
         requires { 1 ≤ size }
@@ -63,7 +63,7 @@ impl Cutting {
         }
     }
 
-    /// Takes the next piece. After a refusal a front of its positions is cut, maybe none, behind the pieces that were
+    /// Takes the next piece. After a refusal some first positions of it are cut, maybe none, after the pieces that were
     /// taken before.
     pub fn push(&mut self, alloc: Global, piece: &Piece) -> Result<(), AllocError>
         ensures k { self.new.k ≡ self.old.k }
@@ -82,11 +82,11 @@ impl Cutting {
             let end = position + taken + (bases - 1);
             let filled = self.filled + taken as u64;
             if filled < self.size {
-                let part = Piece::new(alloc).and_part(piece, position, end)?;
+                let part = Piece::new(alloc).with_part(piece, position, end)?;
                 self.begun.push(part)?;
                 self.filled = filled;
             } else {
-                let batch = self.whole(alloc, piece, position, end)?;
+                let batch = self.whole_batch(alloc, piece, position, end)?;
                 self.batches.push(batch)?;
                 self.begun.clear();
                 self.filled = 0;
@@ -110,15 +110,15 @@ impl Cutting {
         let Some(last) = cutting.begun.pop() else {
             return Ok(cutting.batches);
         };
-        let batch = cutting.whole(alloc, &last, 0, last.len() as usize)?;
+        let batch = cutting.whole_batch(alloc, &last, 0, last.len() as usize)?;
         let mut batches = cutting.batches;
         batches.push(batch)?;
         Ok(batches)
     }
 
     // The batch that is begun, with the bytes of the piece from `from` to before `to` as its last part: all its parts,
-    // packed one behind another. Conditions: these bytes are in order, and at most the piece's.
-    fn whole(
+    // packed one after another. Conditions: these are in order, and at most the piece's length.
+    fn whole_batch(
         &self,
         alloc: Global,
         piece: &Piece,
@@ -137,10 +137,10 @@ impl Cutting {
             ends: Vec::new(alloc),
         };
         for part in &self.begun {
-            pieces = pieces.and_part(part, 0, part.len() as usize)?;
+            pieces = pieces.with_part(part, 0, part.len() as usize)?;
         }
-        pieces = pieces.and_part(piece, from, to)?;
-        // without spare room
+        pieces = pieces.with_part(piece, from, to)?;
+        // without spare capacity
         pieces.bytes.bases.numbers.shrink_to_fit();
         pieces.bytes.runs.shrink_to_fit();
         pieces.ends.shrink_to_fit();
@@ -149,10 +149,9 @@ impl Cutting {
     }
 }
 
-/// Cuts pieces into batches of `size` positions each, of which the last may have fewer. The positions of
-/// all pieces are numbered in order; batch i has those from `i * size` to before `(i + 1) * size`, and
-/// neighbouring parts of one piece overlap by k - 1 bytes. No batch has no position.
-/// Condition: the size is at least 1.
+/// Cuts pieces into batches of `size` positions each; the last may have fewer. The positions of all pieces are numbered
+/// in order; batch i has those from `i * size` to before `(i + 1) * size`, and neighbouring parts of one piece overlap
+/// by k - 1 bytes. Every batch has a position. Condition: the size is at least 1.
 pub fn cut(
     alloc: Global,
     pieces: Vec<Piece>,

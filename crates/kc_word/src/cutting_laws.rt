@@ -16,12 +16,12 @@ pub fn cutting_occurrences()
     ensures { CuttingOccurrences }
 {}
 
-/// Index i of a cutting has batch i.
+/// Element i of a cutting is batch i.
 pub fn cutting_numbers()
     ensures { CuttingNumbers }
 {}
 
-/// The batches of a cutting have together as many positions as the pieces.
+/// The batches of a cutting together have as many positions as the pieces.
 pub fn cutting_positions()
     ensures { CuttingPositions }
 {}

@@ -1,10 +1,9 @@
 //! Reads made ready to be counted in parts, and the words (k-mers) of the parts.
 //!
-//! `clean` makes a `Piece` of a read, `cut` makes numbered batches of pieces, of as many positions each, and `words`
-//! gives the words of a batch; `Walk` gives them one by one, and `PieceViews` the batch's pieces. `cutting_laws`
-//! states what holds of pieces and cuttings. `Only` is a list of the words that occur in reads, to which a count may
-//! be kept; `only_laws` states what holds of such lists. What a word is and how words are counted is in `kc_kmer`,
-//! whose names are here too.
+//! `clean` makes a `Piece` of a read, `cut` makes numbered batches of pieces, with equally many positions, and `words`
+//! returns the words of a batch; `Walk` gives them one by one, and `PieceViews` the batch's pieces. `cutting_laws` has
+//! laws of pieces and cuttings. `Only` is a list of the words that occur in reads, to which a count may be restricted;
+//! `only_laws` has laws of such lists. `kc_kmer` defines words and how they are counted; its names are here, too.
 //!
 //! ```ignore
 //! let rule = Rule::new(k, true, b'!');

@@ -11,17 +11,17 @@ use std::marker::Model;
 /// How many words are looked up at a time.
 pub(crate) const BLOCK: usize = 64;
 
-// The places of a list with as many words do not fit into a start.
+// A list with this many words or more has places that do not fit into a start.
 const TOO_MANY: usize = 1 << 32;
 
-/// Where the words of each prefix begin in a rising list. A prefix is as many high bits of a word as give a start for
-/// one to four words, if the words lie evenly; where many words have one prefix, they are searched by halving.
+/// Where the words of each prefix begin in an ascending list. A prefix is as many high bits of a word as give a start
+/// for one to four words, if the words are spread evenly; if many words have one prefix, they are searched by halving.
 ///
-/// A start has 4 bytes, and there are at most as many as words. A list of 2^32 words or more has none. An answer never
-/// rests on a start alone: it is compared with the words beside it.
+/// A start has 4 bytes, and there are at most as many as words. A list of 2^32 words or more has none. No result relies
+/// on a start alone: it is compared with the words beside it.
 #[derive(Debug, Drop)]
 pub(crate) struct Starts {
-    // how many low bits of a word are not of its prefix
+    // how many low bits of a word are outside its prefix
     shift: u32,
     // for each prefix how many words have a lesser one
     starts: Vec<u32>,
@@ -39,7 +39,7 @@ impl Model for Starts {
 }
 
 impl Starts {
-    /// The starts of these words: where they rise, at least one for four words. The room for them is asked for once.
+    /// The starts of these words: if they ascend, at least one for four words. The room for them is asked for once.
     pub(crate) fn of(alloc: Global, words: &[u64]) -> Result<Starts, AllocError>
         ensures few { IfOk result (λ s. length s.starts ≤ length words.now) }
         ensures many { IsStrictlyIncreasing words.now → length words.now < 2 ^ 32
@@ -51,35 +51,35 @@ impl Starts {
         Ok(Starts { shift, starts })
     }
 
-    /// Whether the word is one of these. Condition: they rise.
+    /// Whether the word is one of these. Condition: they ascend.
     #[inline(always)]
-    pub(crate) fn hold(&self, words: &[u64], word: u64) -> bool
+    pub(crate) fn has(&self, words: &[u64], word: u64) -> bool
         requires { IsStrictlyIncreasing words.now }
         ensures { result ≡ is_listed (Some words.now) word }
     {
-        let place = passed(words, self.start(word), word);
-        self.hold_near(words, word, passed(words, place, word))
+        let place = place_past_lesser(words, self.start(word), word);
+        self.has_near(words, word, place_past_lesser(words, place, word))
     }
 
-    /// The same, where the search begins at a place: at best that of the first word that is not less.
+    /// The same, with the search beginning at a place: at best that of the first word that is not less.
     #[inline(always)]
-    pub(crate) fn hold_near(&self, words: &[u64], word: u64, place: usize) -> bool
+    pub(crate) fn has_near(&self, words: &[u64], word: u64, place: usize) -> bool
         requires { IsStrictlyIncreasing words.now }
         ensures { result ≡ is_listed (Some words.now) word }
     {
-        match told(words, place, word) {
+        match is_listed_at(words, place, word) {
             Some(is_listed) => is_listed,
             None => self.find(words, word),
         }
     }
 
-    // Whether the word is one of these, where it is not near its start.
+    // Whether the word is one of these, if it is not near its start.
     fn find(&self, words: &[u64], word: u64) -> bool
         requires { IsStrictlyIncreasing words.now }
         ensures { result ≡ is_listed (Some words.now) word }
     {
         let end = self.end(words.len(), word);
-        match told(words, halved(words, self.start(word), end, word), word) {
+        match is_listed_at(words, lower_bound(words, self.start(word), end, word), word) {
             Some(is_listed) => is_listed,
             None => words.binary_search(&word).is_ok(),
         }
@@ -101,8 +101,8 @@ impl Starts {
         }
     }
 
-    /// For each of the first `BLOCK` words that are asked for its place in the list, if that is near its start. No
-    /// reading of a start or of the list waits for another one of its kind, so that the memory answers several at once.
+    /// For each of the first `BLOCK` words that are asked for, its place in the list, if that is near its start. No
+    /// read of a start or of the list waits for another of its kind, so the memory serves several at once.
     #[inline(always)]
     pub(crate) fn places(&self, words: &[u64], asked: &[u64]) -> [usize; BLOCK] {
         let mut places = [0; BLOCK];
@@ -140,7 +140,7 @@ fn prefixes(count: usize, last: u64) -> usize
     count.min((last as usize).saturating_add(1))
 }
 
-// The starts of so many prefixes, in room for these alone.
+// The starts of so many prefixes, with room for these alone.
 fn starts_in(
     alloc: Global,
     words: &[u64],
@@ -155,14 +155,14 @@ fn starts_in(
     let mut starts = Vec::with_capacity(alloc, prefixes)?;
     let mut start = 0;
     for prefix in 0..prefixes {
-        start = first_of(words, start, prefix as u64, shift);
+        start = first_with_prefix(words, start, prefix as u64, shift);
         starts.push_reserved(start as u32);
     }
     Ok(starts)
 }
 
 // The place of the first word from this one on that has at least this prefix, or the end.
-fn first_of(words: &[u64], from: usize, prefix: u64, shift: u32) -> usize
+fn first_with_prefix(words: &[u64], from: usize, prefix: u64, shift: u32) -> usize
     requires from { from ≤ length words.now }
     requires shift { shift < 64 }
     ensures { result ≤ length words.now }
@@ -174,25 +174,25 @@ fn first_of(words: &[u64], from: usize, prefix: u64, shift: u32) -> usize
     at
 }
 
-// One place on, where the word that is there is less.
+// The next place, if the word at this one is less; otherwise this one.
 #[inline(always)]
-fn passed(words: &[u64], place: usize, word: u64) -> usize {
+fn place_past_lesser(words: &[u64], place: usize, word: u64) -> usize {
     if place < words.len() && words[place] < word {
         return place + 1;
     }
     place
 }
 
-// For each of the first `BLOCK` words that are asked for one place on, where the word that is there is less.
+// For each of the first `BLOCK` words that are asked for, the next place, if the word at its place is less.
 #[inline(always)]
 fn pass_lesser(words: &[u64], asked: &[u64], places: &mut [usize; BLOCK]) {
     for i in 0..asked.len().min(BLOCK) {
-        places[i] = passed(words, places[i], asked[i]);
+        places[i] = place_past_lesser(words, places[i], asked[i]);
     }
 }
 
-// The place between two at which the words that are less end, by halving.
-fn halved(words: &[u64], low: usize, high: usize, word: u64) -> usize {
+// The place between two at which the lesser words end, by halving.
+fn lower_bound(words: &[u64], low: usize, high: usize, word: u64) -> usize {
     let mut from = low;
     let mut end = high.min(words.len());
     while from < end {
@@ -206,10 +206,10 @@ fn halved(words: &[u64], low: usize, high: usize, word: u64) -> usize {
     from
 }
 
-// Whether the word is one of these, where a place shows it: the word is there, or would have to be. Condition: they
-// rise.
+// Whether the word is one of these, if a place determines it: the word is there, or would have to be. Condition: they
+// ascend.
 #[inline(always)]
-fn told(words: &[u64], place: usize, word: u64) -> Option<bool>
+fn is_listed_at(words: &[u64], place: usize, word: u64) -> Option<bool>
     requires { IsStrictlyIncreasing words.now }
     ensures { IfSome result (λ told. told ≡ is_listed (Some words.now) word) }
 {
@@ -222,7 +222,7 @@ fn told(words: &[u64], place: usize, word: u64) -> Option<bool>
     None
 }
 
-// Whether the words before a place are less. Condition: they rise.
+// Whether the words before a place are less. Condition: they ascend.
 #[inline(always)]
 fn are_lesser(words: &[u64], place: usize, word: u64) -> bool
     requires { IsStrictlyIncreasing words.now }
@@ -231,7 +231,7 @@ fn are_lesser(words: &[u64], place: usize, word: u64) -> bool
     place == 0 || (place <= words.len() && words[place - 1] < word)
 }
 
-// Whether the words from a place on are greater. Condition: they rise.
+// Whether the words from a place on are greater. Condition: they ascend.
 #[inline(always)]
 fn are_greater(words: &[u64], place: usize, word: u64) -> bool
     requires { IsStrictlyIncreasing words.now }

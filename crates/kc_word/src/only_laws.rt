@@ -4,7 +4,7 @@ ghost use Rattle.kc_fastx.specs.Reads.{read_of};
 ghost use Rattle.kc_kmer.specs.Rule.{counting_all};
 ghost use Rattle.kc_word.specs.Only.{IsListOf, OneList};
 
-/// The words that occur in reads have one list.
+/// The words that occur in reads have only one list.
 pub fn one_list()
     ensures { OneList }
 {}

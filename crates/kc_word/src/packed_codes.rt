@@ -9,8 +9,8 @@ use std::marker::Model;
 /// How many bases a number of 64 bits has.
 pub(crate) const BASES: usize = 32;
 
-/// Codes of bases, seen as their list: two bits each, the first one in the highest bits of its number. The bits behind
-/// the last one are 0, so that equal lists have equal numbers.
+/// Codes of bases, with two bits each, the first one in the highest bits of its number. Their view is the list of them.
+/// The bits after the last one are 0, so equal lists have equal numbers.
 #[derive(Debug, Drop)]
 pub(crate) struct Packed {
     pub(crate) numbers: Vec<u64>,
@@ -79,7 +79,7 @@ impl Packed {
         Ok(())
     }
 
-    /// Appends the first `count` codes of a number, behind whole numbers. Conditions: the count is 1 to 32, the length
+    /// Appends the first `count` codes of a number, after whole numbers. Conditions: the count is 1 to 32, the length
     /// is a multiple of 32, and it stays below 2^64.
     #[inline(always)]
     pub(crate) fn push_number(&mut self, number: u64, count: usize) -> Result<(), AllocError>

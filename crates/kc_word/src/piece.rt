@@ -1,4 +1,4 @@
-//! Pieces: reads made ready to be counted, kept as packed codes and runs of N.
+//! Pieces: reads ready to be counted, stored as packed codes and runs of N.
 ghost use Rattle.std.specs.Prelude.{◌≡◌, ◌<◌, ◌↔◌, ◌++◌, [], length, slice_index, slice_range, ◌≤◌, IfOk, IsTrue};
 ghost use Rattle.kc_word.specs.Cutting.{is_piece_byte};
 
@@ -11,9 +11,9 @@ use std::marker::Model;
 /// The letter of a piece in place of a base that is not usable.
 const UNUSABLE: u8 = b'N';
 
-/// A piece: a read, or a part of one, made ready to be counted, with upper-case bases, and `N` in place of each base
-/// that is not usable. It is kept as packed codes and a list of the runs of N. Under a run the codes are 0, so that
-/// equal pieces are kept alike.
+/// A piece: a read, or a part of one, ready to be counted, with upper-case bases, and `N` for each base that is not
+/// usable. It is stored as packed codes and a list of the runs of N. Under a run the codes are 0, so equal pieces are
+/// stored alike.
 #[derive(Debug, Drop)]
 pub struct Piece {
     pub(crate) bases: Packed,
@@ -72,9 +72,14 @@ impl Piece {
         base_of((self.bases.numbers[at / BASES] >> (62 - 2 * (at % BASES))) & 3)
     }
 
-    /// This piece, and behind it the bytes of another one from `from` to before `to`. Conditions: these are in order,
-    /// and at most the other's length. Where the bytes would be 2^64 or more, which no memory holds, it is refused.
-    pub(crate) fn and_part(self, other: &Piece, from: usize, to: usize) -> Result<Piece, AllocError>
+    /// This piece, followed by the bytes of another one from `from` to before `to`. Conditions: these are in order, and
+    /// at most the other's length. If there would be 2^64 bytes or more, which no memory holds, it is refused.
+    pub(crate) fn with_part(
+        self,
+        other: &Piece,
+        from: usize,
+        to: usize,
+    ) -> Result<Piece, AllocError>
         requires ordered { from ≤ to }
         requires within { to ≤ length other.now }
         ensures { IfOk result (λ more. more ≡ self ++ slice_range other.now from to) }

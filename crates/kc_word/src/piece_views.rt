@@ -6,7 +6,7 @@ use crate::piece::Piece;
 use crate::pieces::Pieces;
 use std::marker::Model;
 
-/// A piece of a batch, seen as its bytes.
+/// A piece of a batch. Its view is its bytes.
 #[derive(Drop)]
 pub struct PieceView<'a> {
     pub(crate) bytes: &'a Piece,
@@ -49,7 +49,7 @@ impl<'a> PieceView<'a> {
     }
 }
 
-/// An iterator over the pieces of a batch, seen as the list of those still to come.
+/// An iterator over the pieces of a batch. Its view is the list of those still to come.
 #[derive(Drop)]
 pub struct PieceViews<'a> {
     pub(crate) pieces: &'a Pieces,

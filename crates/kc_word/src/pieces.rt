@@ -1,4 +1,4 @@
-//! Several pieces kept as one, each behind the one before, with the places at which they end.
+//! Several pieces stored as one, one after another, with the places at which they end.
 ghost use Rattle.std.specs.Prelude.{◌≡◌, ◌<◌, ◌≤◌, ◌++◌, ◌∷◌, ◌==◌, [], None, length};
 ghost use Rattle.std.specs.Prelude.{slice_index_or, slice_range, IfOk};
 ghost use Rattle.kc_fastx.specs.Reads.{read_of};
@@ -11,7 +11,7 @@ use kc_kmer::Rule;
 use std::alloc::AllocError;
 use std::marker::Model;
 
-/// Pieces, in order. They are kept as one piece that has the bytes of all of them, and where each of them ends in it.
+/// Pieces, in order. They are stored as one piece with the bytes of all of them, and the places at which they end.
 #[derive(Debug, Drop)]
 pub(crate) struct Pieces {
     pub(crate) bytes: Piece,
@@ -49,9 +49,9 @@ impl Pieces {
         Roll::new(&self.bytes, start, self.ends[i], rule)
     }
 
-    /// These pieces, and behind them, as one more, the bytes of a piece from `from` to before `to`. Conditions: these
-    /// are in order, and at most the piece's length.
-    pub(crate) fn and_part(
+    /// These pieces, and one more: the bytes of a piece from `from` to before `to`. Conditions: these are in order, and
+    /// at most the piece's length.
+    pub(crate) fn with_part(
         self,
         piece: &Piece,
         from: usize,
@@ -61,7 +61,7 @@ impl Pieces {
         requires within { to ≤ length piece.now }
         ensures { IfOk result (λ more. more ≡ self ++ slice_range piece.now from to ∷ []) }
     {
-        let bytes = self.bytes.and_part(piece, from, to)?;
+        let bytes = self.bytes.with_part(piece, from, to)?;
         let mut ends = self.ends;
         ends.push(bytes.len() as usize)?;
         Ok(Pieces { bytes, ends })

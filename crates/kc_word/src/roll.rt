@@ -33,8 +33,8 @@ pub fn read_words(alloc: Global, read: &SeqRead, rule: &Rule) -> Result<Vec<u64>
     Ok(words)
 }
 
-/// The words at the positions of the batch, without those that hold N, as numbers, in the forms under
-/// which they count, in order.
+/// The words at the positions of the batch, without those that have an N, as numbers, in the forms under which they
+/// count, in order.
 pub fn words(alloc: Global, batch: &Batch, rule: &Rule) -> Result<Vec<u64>, AllocError>
     ensures words { IfOk result (λ words. words.items ≡ words_of rule.now (as_reads batch.now.pieces)) }
     ensures below { IfOk result (λ words. All (λ word. word < 4 ^ rule.now.k) words.items) }
@@ -45,7 +45,7 @@ pub fn words(alloc: Global, batch: &Batch, rule: &Rule) -> Result<Vec<u64>, Allo
     Ok(words)
 }
 
-/// What `words` answers, in place of the numbers that are there. The room for these is used again.
+/// Replaces the numbers by what `words` returns. Their capacity is used again.
 pub fn put_words(batch: &Batch, rule: &Rule, words: &mut Vec<u64>) -> Result<(), AllocError>
     ensures words { OnOk result (words.new.items ≡ words_of rule.now (as_reads batch.now.pieces)) }
     ensures below { OnOk result (All (λ word. word < 4 ^ rule.now.k) words.new.items) }
@@ -69,7 +69,7 @@ fn room_for_piece(alloc: Global, piece: &Piece, k: K) -> Result<Vec<u64>, AllocE
     Vec::with_capacity(alloc, k.positions(piece.len() as usize))
 }
 
-// No words, with room for as many as the batch has positions, and no more unless it was there.
+// No words, with room for as many as the batch has positions, and no more unless there was more before.
 fn clear_for_words(words: &mut Vec<u64>, batch: &Batch, k: K) -> Result<(), AllocError>
     ensures empty { words.new.items ≡ [] }
     ensures bounded { vec_capacity words.new ≤ max (vec_capacity words.old) (position_total k batch.now.pieces) }
@@ -92,12 +92,12 @@ fn push_words(roll: Roll<'_>, words: &mut Vec<u64>) -> Result<(), AllocError>
     Ok(())
 }
 
-// A place in a piece, or in a part of one, seen as its bytes and how many of them were taken.
+// A place in a piece, or in a part of one. Its view is the bytes and how many of them were taken.
 #[derive(Drop)]
 struct Codes<'a> {
     bases: &'a Packed,
     runs: &'a [Run],
-    // The number of the first run that ends at `at` or behind it.
+    // The number of the first run that ends at `at` or after it.
     next: usize,
     from: usize,
     at: usize,
@@ -119,7 +119,7 @@ impl<'a> Model for Codes<'a> {
 }
 
 impl<'a> Codes<'a> {
-    // Takes the next byte, and answers its code, or `NO_BASE`. Condition: not all bytes were taken.
+    // Takes the next byte, and returns its code, or `NO_BASE`. Condition: not all bytes were taken.
     #[inline(always)]
     fn next_code(&mut self) -> u64
         requires { self.old.taken < length self.old.bytes }
@@ -193,7 +193,8 @@ impl<'a> Roll<'a> {
         self.rolled.rule
     }
 
-    /// Takes the next byte, and answers the word that ends in it, if one does. Condition: not all bytes were taken.
+    /// Takes the next byte, and returns the word that ends with it, if there is one. Condition: not all bytes were
+    /// taken.
     #[inline(always)]
     pub(crate) fn step(&mut self) -> Option<u64>
         requires { self.old.taken < length self.old.bytes }
@@ -205,7 +206,7 @@ impl<'a> Roll<'a> {
         self.rolled.push(code)
     }
 
-    // Takes the next bases, at most 32 and up to an N, and appends the words that end in them.
+    // Takes the next bases, at most 32 and up to an N, and appends the words that end with them.
     #[inline(always)]
     fn push_stretch(self, words: &mut Vec<u64>) -> Result<Roll<'a>, AllocError>
         ensures rule { IfOk result (λ next. next.rule ≡ self.entry.rule) }
@@ -218,7 +219,7 @@ impl<'a> Roll<'a> {
         let mut codes = self.codes;
         let at = codes.at;
         let mut count = (codes.to - at).min(BASES);
-        // none where all are taken, or the next run has begun
+        // none if all are taken, or the next run has begun
         if codes.next < codes.runs.len() {
             count = count.min(codes.runs[codes.next].start.saturating_sub(at));
         }
@@ -232,7 +233,7 @@ impl<'a> Roll<'a> {
         Ok(Roll { codes, rolled })
     }
 
-    /// Takes bytes up to the end of the next word, or all that are left where no word ends in them.
+    /// Takes bytes up to the end of the next word, or all that are left if no word ends in them.
     #[inline(always)]
     pub(crate) fn next_word(&mut self) -> Option<u64>
         ensures rule { self.new.rule ≡ self.old.rule }

@@ -6,7 +6,7 @@ use kc_kmer::Rule;
 use kc_kmer::letter::NO_BASE;
 
 /// The last `k` bases that were taken as a number, their reverse complement as another, and how many bases came since
-/// the last byte that is none.
+/// the last byte that is no base.
 #[derive(Drop)]
 pub struct Rolled {
     /// How words count.
@@ -17,7 +17,7 @@ pub struct Rolled {
 }
 
 impl Rolled {
-    /// Before the first byte of any bytes.
+    /// Before the first byte.
     #[inline(always)]
     pub fn new(rule: Rule) -> Rolled
         ensures rule { result.rule ≡ rule }
@@ -34,8 +34,8 @@ impl Rolled {
         }
     }
 
-    /// Takes the code of the next byte, or `NO_BASE`, and answers the word that ends there, if one does. Condition: it
-    /// is the code of the next byte of a place.
+    /// Takes the code of the next byte, or `NO_BASE`, and returns the word that ends there, if there is one. Condition:
+    /// it is the code of the next byte of a place.
     #[inline(always)]
     pub fn push(&mut self, code: u64) -> Option<u64>
         requires { (walking : Walking) × IsNext walking self.old code }

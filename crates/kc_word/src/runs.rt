@@ -21,8 +21,8 @@ impl Run {
     }
 }
 
-/// Takes `count` indices from `at` on, behind all that the runs have, into the last run where that one ends there, and
-/// else into a new one. After a refusal the runs are as they were.
+/// Adds `count` indices from `at` on, after all that the runs have, to the last run if that one ends there, otherwise
+/// as a new one. After a refusal the runs are unchanged.
 pub(crate) fn push_run(runs: &mut Vec<Run>, at: usize, count: usize) -> Result<(), AllocError>
     requires rising { AreRuns 0 at runs.old.items }
     requires some { 1 ≤ count }
@@ -42,7 +42,7 @@ pub(crate) fn push_run(runs: &mut Vec<Run>, at: usize, count: usize) -> Result<(
     Ok(())
 }
 
-/// Whether the index lies in one of the runs.
+/// Whether the index is in one of the runs.
 pub(crate) fn is_in_runs(runs: &[Run], i: usize) -> bool
     ensures { result ≡ is_in_runs runs.now i }
 {

@@ -94,7 +94,7 @@ fn mark_gaps(
     Ok(())
 }
 
-/// The code of base `i` where it is one of `ACGTacgt` and its quality, where it has one, reaches the floor, and else
+/// The code of base `i` if it is one of `ACGTacgt` and its quality, if it has one, is at least the floor; otherwise
 /// `NO_BASE`. Condition: the read has this base. It takes no memory.
 #[inline(always)]
 pub fn usable_code(read: &SeqRead, rule: &Rule, i: usize) -> u8

@@ -3,7 +3,7 @@ use crate::pieces::Pieces;
 use crate::roll::Roll;
 use std::marker::Model;
 
-/// An iterator over the words of a batch, seen as the list of those still to come.
+/// An iterator over the words of a batch. Its view is the list of those still to come.
 #[derive(Drop)]
 pub struct Walk<'a> {
     pub(crate) roll: Roll<'a>,

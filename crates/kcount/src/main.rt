@@ -14,7 +14,7 @@ fn main(rt: HostRuntime) -> ExitCode {
     let terminal = rt.stderr();
     let progress = ProgressLine::new(&rt, &terminal, rt.stdin().is_terminal());
     let notes = StreamNotes::none();
-    let mut files = NamedFiles::new(&rt).beside(&notes);
+    let mut files = NamedFiles::new(&rt).with_notes(&notes);
     let mut input = notes.source_over(rt.stdin());
     let mut output = notes.sink_over(rt.stdout());
     let mut errors = ToWrite::new(rt.stderr());

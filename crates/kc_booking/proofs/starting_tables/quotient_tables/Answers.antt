@@ -9,7 +9,7 @@ use Rattle.kc_booking.proofs.Logs.{IsLeastLog-zero, IsLeastLog-more}
 use Rattle.kc_booking.proofs.starting_tables.quotient_tables.Goals as goal
 use Rattle.kc_booking.proofs.starting_tables.quotient_tables.Goals.{then-last-eq0, else-last-eq0}
 
--- one table more, of which the same holds
+-- one more table with the same property
 pushed : (P : QuotientTable → Type 0) (old new : List QuotientTable) (table : QuotientTable) → new ≡ old ++ table ∷ [] → All P old → P table → All P new
 pushed P old new table is all one = subst (All P) (sym is) (All-push P old table all one)
 

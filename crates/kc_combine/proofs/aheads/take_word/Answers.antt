@@ -1,6 +1,6 @@
 use Rattle.std.proofs.Common.{◌∙◌, sym, arith}
 use Rattle.std.proofs.lemmas.List.{length-set}
-use Rattle.kc_combine.proofs.AheadsLemmas.{fails_at, lengths_stay, rise_all, rise_more, taken_all, taken_more}
+use Rattle.kc_combine.proofs.AheadsLemmas.{fails_at, whences_stay, rise_all, rise_more, taken_all, taken_more}
 use Rattle.std.proofs.lemmas.Result.{err_from_is_err_and}
 use Rattle.kc_combine.proofs.aheads.take_word.Goals as goal
 
@@ -15,7 +15,7 @@ tables-preserved g c =
       rise = λ begin.
           rise_more c.args.word c.tables.i c.tables.aheads c.index-aheads-i.result c.take.new.self (s.rise begin)
           (omega (arith, c.tables-test.true, s.long)) c.in_ok-counts.ensures.rises;
-      same = lengths_stay g.R.GivesRows.k c.tables.i c.tables.aheads c.index-aheads-i.result c.take.new.self
+      same = whences_stay g.R.GivesRows.whence c.tables.i c.tables.aheads c.index-aheads-i.result c.take.new.self
           (omega (arith, c.tables-test.true, s.long)) c.take.ensures.same ∙ s.same;
       long = length-set c.tables.aheads c.tables.i c.take.new.self ∙ s.long;
       alike = length-set c.tables.counts c.tables.i c.in_ok-counts.field-0 ∙ s.alike ∙ sym (length-set c.tables.aheads c.tables.i c.take.new.self);
@@ -40,5 +40,5 @@ returns-in_err-counts-clause-fault g c = λ tables have. let s = c.tables.invari
 
 pub returns-in_err-counts-clause-same : goal.returns-in_err-counts-clause-same
 returns-in_err-counts-clause-same g c = let s = c.tables.invariant in
-    lengths_stay g.R.GivesRows.k c.tables.i c.tables.aheads c.index-aheads-i.result c.take.new.self
+    whences_stay g.R.GivesRows.whence c.tables.i c.tables.aheads c.index-aheads-i.result c.take.new.self
     (omega (arith, c.tables-test.true, s.long)) c.take.ensures.same ∙ s.same

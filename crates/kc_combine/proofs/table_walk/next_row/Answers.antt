@@ -32,7 +32,7 @@ words-preserved g c = record {
 pub returns-then-count-gt0-clause-word : goal.returns-then-count-gt0-clause-word
 returns-then-count-gt0-clause-word g c = λ k have.
     let least = sym c.least_word.ensures ∙ c.in-Some.is in
-    fits_least k c.in-Some.word c.words.aheads (subst (λ ns. All (λ n. n ≡ k) ns) (sym c.words.invariant.same) have) least
+    fits_least k c.in-Some.word c.words.aheads (subst (λ froms. All (λ from. from.k ≡ k) froms) (sym c.words.invariant.same) have) least
 
 pub returns-then-count-gt0-clause-fewer : goal.returns-then-count-gt0-clause-fewer
 returns-then-count-gt0-clause-fewer g c =

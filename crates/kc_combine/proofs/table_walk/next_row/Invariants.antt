@@ -1,6 +1,6 @@
 use Rattle.std.proofs.Common.{◌≡◌, ◌≤◌, ℕ, List, length, None}
 use Rattle.kc_tally.specs.declared.row.Row.{Row}
-use Rattle.kc_combine.specs.Aheads.{heads_of, least_from, lengths_of}
+use Rattle.kc_combine.specs.Aheads.{heads_of, least_from, whences_of}
 use Rattle.kc_combine.specs.Walks.{IsWalking, left_from}
 use Rattle.kc_combine.proofs.table_walk.next_row.Given as goal
 
@@ -12,7 +12,7 @@ invariant-words g l =
     record {
       walking : (bound : ℕ) (tables : List (List Row)) (rows : List Row) → IsWalking Gave Whole rule bound tables l.fn.aheads rows
           → (later : ℕ) × (after : List (List Row)) × IsWalking Gave Whole rule later after l.aheads rows;
-      same : lengths_of g.R.GivesRows.k l.aheads ≡ lengths_of g.R.GivesRows.k l.fn.aheads;
+      same : whences_of g.R.GivesRows.whence l.aheads ≡ whences_of g.R.GivesRows.whence l.fn.aheads;
       fewer : left_from (least_from None (heads_of l.aheads)) ≤ left_from (least_from None (heads_of l.fn.aheads));
       long : length l.aheads ≡ length l.fn.aheads;
       kept : length l.counts ≡ length l.fn.counts;

@@ -1,4 +1,4 @@
-use Rattle.std.proofs.Common.{◌≡◌, [], ◌∷◌, ◌++◌, All, inr, subst, sym, ◌∙◌}
+use Rattle.std.proofs.Common.{◌≡◌, [], ◌∷◌, ◌++◌, All, inr, refl, subst, sym, ◌∙◌}
 use Rattle.std.proofs.lemmas.Result.{err_from_is_err_and}
 use Rattle.kc_combine.specs.WrittenTables.{no_rows}
 use Rattle.kc_combine.proofs.WrittenLemmas.{fails_behind, result_of, walks_from_start}
@@ -7,6 +7,7 @@ use Rattle.kc_combine.proofs.written_tables.write_rows.Goals as goal
 pub rows-init : goal.rows-init
 rows-init g c = record {
   alike = c.requires.alike;
+  same = refl;
   words = c.requires.words;
   put = (
     [],
@@ -35,7 +36,8 @@ rows-preserved g c =
     let start = g.W.Sink.seen c.args.writer.now in
     record {
       alike = c.put_next.ensures.alike ∙ s.alike ∙ sym c.put_next.ensures.long;
-      words = subst (λ ns. All (λ n. n ≡ c.args.header.now.k) ns) (sym c.put_next.ensures.same) s.words;
+      same = c.put_next.ensures.same ∙ s.same;
+      words = subst (λ froms. All (λ from. from.k ≡ c.args.header.now.k) froms) (sym c.put_next.ensures.same) s.words;
       put = (
         s.put.0 ++ c.in-Some._row ∷ [],
         rw c.in-Some.is at c.in_ok-_row.ensures.put start c.args.header.now s.put.0 s.put.1,
@@ -51,10 +53,10 @@ returns-in-Ok-clause-written g c = λ begins.
     let walked = s.put.2 begins in
     let put = rw c.in_default.is at c.in_ok-_row.ensures.put start c.args.header.now s.put.0 s.put.1 in
     let ends = rw c.in_default.is at c.in_ok-_row.ensures.goes walked.0 walked.1 s.put.0 walked.2 in
-    let words = subst (λ ns. All (λ n. n ≡ c.args.header.now.k) ns) (sym c.put_next.ensures.same) s.words in
+    let words = subst (λ froms. All (λ from. from.k ≡ c.args.header.now.k) froms) (sym c.put_next.ensures.same) s.words in
     record {
       rows = s.put.0;
-      result = result_of g.R.GivesRows.gave g.R.GivesRows.gave_all g.R.GivesRows.k c.args.header.now.k
+      result = result_of g.R.GivesRows.gave g.R.GivesRows.gave_all g.R.GivesRows.whence c.args.header.now.k
           (g.C.Combines.rule c.args.combines.now) c.put_next.new.aheads s.put.0 (g.met.C.Combines.nothing c.args.combines.now)
           g.met.R.GivesRows.whole words ends;
       written = c.in-Ok.ensures start c.args.header.now s.put.0 put;
@@ -69,8 +71,8 @@ returns-in-Err-clause-fault g c = λ begins.
     let walked = s.put.2 begins in
     let put = rw c.in_default.is at c.in_ok-_row.ensures.put start c.args.header.now s.put.0 s.put.1 in
     let ends = rw c.in_default.is at c.in_ok-_row.ensures.goes walked.0 walked.1 s.put.0 walked.2 in
-    let words = subst (λ ns. All (λ n. n ≡ c.args.header.now.k) ns) (sym c.put_next.ensures.same) s.words in
-    let result = result_of g.R.GivesRows.gave g.R.GivesRows.gave_all g.R.GivesRows.k c.args.header.now.k
+    let words = subst (λ froms. All (λ from. from.k ≡ c.args.header.now.k) froms) (sym c.put_next.ensures.same) s.words in
+    let result = result_of g.R.GivesRows.gave g.R.GivesRows.gave_all g.R.GivesRows.whence c.args.header.now.k
     (g.C.Combines.rule c.args.combines.now) c.put_next.new.aheads s.put.0 (g.met.C.Combines.nothing c.args.combines.now)
     g.met.R.GivesRows.whole words ends in
     (s.put.0, inr (result, c.in-Err.ensures start c.args.header.now s.put.0 put))

@@ -1,7 +1,7 @@
 use Rattle.std.proofs.Common.{◌≡◌, ℕ, List, length, None}
 use Rattle.kc_tally.specs.declared.row.Row.{Row}
 use Rattle.kc_report.specs.RowsWritten.{HasPutRows}
-use Rattle.kc_combine.specs.Aheads.{HaveLength, heads_of, least_from}
+use Rattle.kc_combine.specs.Aheads.{HaveLength, heads_of, least_from, whences_of}
 use Rattle.kc_combine.specs.Walks.{IsWalking, left_from}
 use Rattle.kc_combine.specs.WrittenTables.{StandAtStart}
 use Rattle.kc_combine.proofs.written_tables.write_rows.Given as goal
@@ -12,7 +12,8 @@ invariant-rows g l =
     let Whole = g.R.GivesRows.gave_all in
     record {
       alike : length l.counts ≡ length l.aheads;
-      words : HaveLength g.R.GivesRows.k l.header.k l.aheads;
+      same : whences_of g.R.GivesRows.whence l.aheads ≡ whences_of g.R.GivesRows.whence l.fn.aheads;
+      words : HaveLength g.R.GivesRows.whence l.header.k l.aheads;
       put : (rows : List Row) × HasPutRows (g.W.Sink.seen l.fn.writer) (g.W.Sink.seen l.writer) l.header rows l.writing
           × (StandAtStart Gave Whole l.fn.aheads → (bound : ℕ) × (tables : List (List Row))
           × IsWalking Gave Whole (g.C.Combines.rule l.combines) bound tables l.aheads rows);

@@ -28,4 +28,4 @@ returns c =
     )
     ) in
     IfOk-weaker c.args-2.result _ _
-    (λ command adds. ap (λ (a : App). a.top) (all_added c.described.result command _ c.in_ok-arguments.arguments.items histo_shape.rules adds have c.described.ensures)) c.args-2.ensures
+    (λ command adds. ap (λ (a : App). a.top) (all_added c.command_with_help.result command _ c.in_ok-arguments.arguments.items histo_shape.rules adds have c.command_with_help.ensures)) c.args-2.ensures

@@ -43,8 +43,8 @@ returns c =
                           c.explain.ensures.own,
                           c.explain.ensures.rule,
                           (
-                            c.counted.ensures.own,
-                            c.counted.ensures.rule,
+                            c.counted_table.ensures.own,
+                            c.counted_table.ensures.rule,
                             (
                               c.files.ensures.own,
                               c.files.ensures.rule,
@@ -64,4 +64,4 @@ returns c =
     )
     ) in
     IfOk-weaker c.args-2.result _ _
-    (λ command adds. ap (λ (a : App). a.top) (all_added c.described.result command _ c.in_ok-arguments.arguments.items select_shape.rules adds have c.described.ensures)) c.args-2.ensures
+    (λ command adds. ap (λ (a : App). a.top) (all_added c.command_with_help.result command _ c.in_ok-arguments.arguments.items select_shape.rules adds have c.command_with_help.ensures)) c.args-2.ensures

@@ -1,6 +1,6 @@
 use Rattle.std.proofs.Common.{refl}
 use Rattle.clap.proofs.OnLiterals.{clap_on_literals}
-use Rattle.kc_command.specs.Laws.{CountsBothStrands, CountsFiles, CountsListedWords, MergesTables, ProfilesRecords, ReadsTables, Refuses, SelectsPairs, SelectsReads}
+use Rattle.kc_command.specs.Laws.{CountsBothStrands, CountsFiles, CountsListedWords, FiltersTables, IntersectsTables, MergesTables, ProfilesRecords, ReadsTables, Refuses, SelectsPairs, SelectsReads, SubtractsTables}
 use Rattle.kc_command.proofs.command_laws.command_lines.Goals as goal
 
 counts_both_strands : CountsBothStrands
@@ -67,6 +67,7 @@ merges_tables = record {
   command = refl;
   first = refl;
   second = refl;
+  tables = refl;
   no_output = refl;
   output_taken = refl;
   output = refl;
@@ -75,8 +76,73 @@ merges_tables = record {
   long_output = refl;
   no_table = refl;
   one_table = refl;
-  three_tables = refl;
+  three_taken = refl;
+  three = refl;
+  apart = refl;
+  nameless = refl;
+  most_taken = refl;
+  not_too_many = refl;
+  more_taken = refl;
+  too_many = refl;
   other_option = refl;
+}
+
+intersects_tables : IntersectsTables
+unfolding clap_on_literals
+intersects_tables = record {
+  taken = refl;
+  command = refl;
+  good = refl;
+  greatest = refl;
+  tables = refl;
+  output = refl;
+  alone = refl;
+  usual = refl;
+  least = refl;
+  total = refl;
+  first = refl;
+  other_name = refl;
+  no_name = refl;
+  twice = refl;
+  no_table = refl;
+  one_table = refl;
+  option_of_subtract = refl;
+}
+
+subtracts_tables : SubtractsTables
+unfolding clap_on_literals
+subtracts_tables = record {
+  taken = refl;
+  command = refl;
+  counts = refl;
+  tables = refl;
+  alone = refl;
+  usual = refl;
+  output = refl;
+  with_value = refl;
+  no_table = refl;
+  one_table = refl;
+  option_of_intersect = refl;
+}
+
+filters_tables : FiltersTables
+unfolding clap_on_literals
+filters_tables = record {
+  taken = refl;
+  command = refl;
+  good = refl;
+  lower = refl;
+  upper = refl;
+  file = refl;
+  alone = refl;
+  usual_lower = refl;
+  usual_upper = refl;
+  no_file = refl;
+  output = refl;
+  first_of_two = refl;
+  above = refl;
+  second_file = refl;
+  option_of_dump = refl;
 }
 
 selects_reads : SelectsReads
@@ -175,6 +241,15 @@ returns-clause-tables c = reads_tables
 
 pub returns-clause-merges : goal.returns-clause-merges
 returns-clause-merges c = merges_tables
+
+pub returns-clause-intersects : goal.returns-clause-intersects
+returns-clause-intersects c = intersects_tables
+
+pub returns-clause-subtracts : goal.returns-clause-subtracts
+returns-clause-subtracts c = subtracts_tables
+
+pub returns-clause-filters : goal.returns-clause-filters
+returns-clause-filters c = filters_tables
 
 pub returns-clause-refuses : goal.returns-clause-refuses
 returns-clause-refuses c = refuses

@@ -18,4 +18,4 @@ lawful = record {
 
 pub of_packed-requires : goal.of_packed-requires
 unfolding rows
-of_packed-requires c = rw (c.requires, c.in_ok-in_parts.ensures) lawful
+of_packed-requires c = rw (c.requires, c.in_ok-divide_rows.ensures) lawful

@@ -21,7 +21,7 @@ returns-then-eq-clause-bases c =
     IfOk-weaker c.parse_fasta.result (λ reads. Records IsFastaRecord ls reads.items []) (λ reads. base_count reads.items ≤ length bytes)
     (λ reads h. base_count-fasta bytes reads.items (subst (λ ls. Records IsFastaRecord ls reads.items []) e h)) c.parse_fasta.ensures.ok
 
--- the first line that isn't blank begins with `>` where its bytes do
+-- the first line that isn't blank begins with `>` if its bytes do
 begins : (c : After-eq) → begins_with greater_than c.lines.inside.left.now ≡ next_begins_with greater_than c.pass_blanks.new.self.left
 begins c = left-begins greater_than c.lines.inside.left.now (omega arith) (ap (λ (s : Cursor). s.left) c.lines.view_is)
 

@@ -13,7 +13,7 @@ loop-preserved c =
     let m = c.args.count - (c.loop.counter + 1) in
     let rest = bits_left c.number.new.self in
     let left : suc m ≡ c.args.count - c.loop.counter = omega arith in
-    ap (λ r. sum_bytes_at r m rest) c.after_byte-current.ensures
+    ap (λ r. sum_bytes_at r m rest) c.crc_after_byte-current.ensures
     ∙ sym (sum_bytes_at-more m c.in-Ok.byte c.loop.current (bits_left c.loop.bits) rest c.in-Ok.ensures.read)
     ∙ ap (λ k. sum_bytes_at c.loop.current k (bits_left c.loop.bits)) left
     ∙ c.loop.invariant

@@ -20,4 +20,4 @@ pub returns : goal.returns
 returns c = λ more w.
     size-some c.args.header c.requires (sym c.has_flag.ensures ∙ c.if-not-has_flag.false) (bits_left c.args.bits.now) (bits_left c.number.new.self) (bits_left c.number-2.new.self) c.in-Ok.low c.in-Ok-number.high
     c.in-Ok.ensures.read c.in-Ok-number.ensures.read more w
-    ∙ ap (λ r. extra_left c.args.header.flags (c.in-Ok.low + 256 * c.in-Ok-number.high) r (bits_left c.number-2.new.self ++ more)) (ap (λ r. register_after_byte r c.in-Ok-number.high) (sym c.after_byte.ensures) ∙ sym c.after_byte-2.ensures)
+    ∙ ap (λ r. extra_left c.args.header.flags (c.in-Ok.low + 256 * c.in-Ok-number.high) r (bits_left c.number-2.new.self ++ more)) (ap (λ r. register_after_byte r c.in-Ok-number.high) (sym c.crc_after_byte.ensures) ∙ sym c.crc_after_byte-2.ensures)

@@ -31,4 +31,4 @@ returns-clause-some c =
     let within = c.digits_of-count.ensures.within in
     fields_said c.args.fields.now (first_is c.args.fields.now c.in-32.len_at_least first refl)
     (omega (arith, within)) c.if-digits-many-ne10.false
-    (counted c.digits_of-count.ensures c.if-many-lt1.false c.if-many-gt-MOST_DIGITS.false c.if-digits-eq48.false)
+    (counted c.digits_of-count.ensures c.if-many-lt1.false c.if-many-gt-MAX_DIGITS.false c.if-digits-eq48.false)

@@ -69,8 +69,8 @@ returns-in_err-judged-in-Ok-Some g c =
     (each g.W.Sink.seen c.pairs.writers) is c.pairs.blocks s.put
     c.in_err-judged-in-Ok-Some.ensures.err))
 
-pub and-requires-clause-kept : goal.and-requires-clause-kept
-and-requires-clause-kept g c =
+pub plus-requires-clause-kept : goal.plus-requires-clause-kept
+plus-requires-clause-kept g c =
     let s = c.pairs.invariant in
     let given = rw c.in-Ok-Some.field-0-is at c.in-Ok-Some.ensures.given _ _ s.these s.given in
     let more = rw c.in-Ok-Some.field-0-is at c.in-Ok-Some.ensures.used in
@@ -80,8 +80,8 @@ and-requires-clause-kept g c =
     c.in_ok-judged-in-Ok-Some.ensures.counts more in
     (fewer_before _ _ few).kept
 
-pub and-requires-clause-words : goal.and-requires-clause-words
-and-requires-clause-words g c =
+pub plus-requires-clause-words : goal.plus-requires-clause-words
+plus-requires-clause-words g c =
     let s = c.pairs.invariant in
     let given = rw c.in-Ok-Some.field-0-is at c.in-Ok-Some.ensures.given _ _ s.these s.given in
     let more = rw c.in-Ok-Some.field-0-is at c.in-Ok-Some.ensures.used in
@@ -91,8 +91,8 @@ and-requires-clause-words g c =
     c.in_ok-judged-in-Ok-Some.ensures.counts more in
     (fewer_before _ _ few).words
 
-pub and-requires-clause-solid : goal.and-requires-clause-solid
-and-requires-clause-solid g c =
+pub plus-requires-clause-solid : goal.plus-requires-clause-solid
+plus-requires-clause-solid g c =
     let s = c.pairs.invariant in
     let given = rw c.in-Ok-Some.field-0-is at c.in-Ok-Some.ensures.given _ _ s.these s.given in
     let more = rw c.in-Ok-Some.field-0-is at c.in-Ok-Some.ensures.used in
@@ -102,8 +102,8 @@ and-requires-clause-solid g c =
     c.in_ok-judged-in-Ok-Some.ensures.counts more in
     (fewer_before _ _ few).solid
 
-pub and-counts-requires-clause-kept : goal.and-counts-requires-clause-kept
-and-counts-requires-clause-kept g c =
+pub plus-counts-requires-clause-kept : goal.plus-counts-requires-clause-kept
+plus-counts-requires-clause-kept g c =
     let s = c.pairs.invariant in
     let given = rw c.in-Ok-Some.field-0-is at c.in-Ok-Some.ensures.given _ _ s.these s.given in
     let more = rw c.in-Ok-Some.field-0-is at c.in-Ok-Some.ensures.used in
@@ -111,10 +111,10 @@ and-counts-requires-clause-kept g c =
     let some : 1 ≤ c.args.selection.now.selector.by.tally.k = omega (arith, c.get-bases.ensures.some, k) in
     let few = pairs_fit s _ c.next_pair.new.self c.in-Ok-Some.reads c.in_ok-judged-in-Ok-Some.judged some c.requires given
     c.in_ok-judged-in-Ok-Some.ensures.counts more in
-    rw c.and.ensures few.kept
+    rw c.plus.ensures few.kept
 
-pub and-counts-requires-clause-words : goal.and-counts-requires-clause-words
-and-counts-requires-clause-words g c =
+pub plus-counts-requires-clause-words : goal.plus-counts-requires-clause-words
+plus-counts-requires-clause-words g c =
     let s = c.pairs.invariant in
     let given = rw c.in-Ok-Some.field-0-is at c.in-Ok-Some.ensures.given _ _ s.these s.given in
     let more = rw c.in-Ok-Some.field-0-is at c.in-Ok-Some.ensures.used in
@@ -122,10 +122,10 @@ and-counts-requires-clause-words g c =
     let some : 1 ≤ c.args.selection.now.selector.by.tally.k = omega (arith, c.get-bases.ensures.some, k) in
     let few = pairs_fit s _ c.next_pair.new.self c.in-Ok-Some.reads c.in_ok-judged-in-Ok-Some.judged some c.requires given
     c.in_ok-judged-in-Ok-Some.ensures.counts more in
-    rw c.and.ensures few.words
+    rw c.plus.ensures few.words
 
-pub and-counts-requires-clause-solid : goal.and-counts-requires-clause-solid
-and-counts-requires-clause-solid g c =
+pub plus-counts-requires-clause-solid : goal.plus-counts-requires-clause-solid
+plus-counts-requires-clause-solid g c =
     let s = c.pairs.invariant in
     let given = rw c.in-Ok-Some.field-0-is at c.in-Ok-Some.ensures.given _ _ s.these s.given in
     let more = rw c.in-Ok-Some.field-0-is at c.in-Ok-Some.ensures.used in
@@ -133,7 +133,7 @@ and-counts-requires-clause-solid g c =
     let some : 1 ≤ c.args.selection.now.selector.by.tally.k = omega (arith, c.get-bases.ensures.some, k) in
     let few = pairs_fit s _ c.next_pair.new.self c.in-Ok-Some.reads c.in_ok-judged-in-Ok-Some.judged some c.requires given
     c.in_ok-judged-in-Ok-Some.ensures.counts more in
-    rw c.and.ensures few.solid
+    rw c.plus.ensures few.solid
 
 pub pairs-smaller-in_ok-judged-in-Ok-Some : goal.pairs-smaller-in_ok-judged-in-Ok-Some
 pairs-smaller-in_ok-judged-in-Ok-Some g c =
@@ -170,8 +170,8 @@ pairs-preserved-in_ok-judged-in-Ok-Some g c =
     let is : Sides Written = each g.W.Sink.seen c.put_in_two.new.writers in
     let left : Sides (List ℕ) = c.put_in_two.new.blocks in
     pairing_more s new reader (λ these. Drain was is (first_text selector these) (second_text selector these) left) c.in-Ok-Some.reads
-    c.in_ok-judged-in-Ok-Some.judged c.and-counts.result given c.in_ok-judged-in-Ok-Some.ensures.counts
-    (rw c.and.ensures at c.and-counts.ensures) more
+    c.in_ok-judged-in-Ok-Some.judged c.plus-counts.result given c.in_ok-judged-in-Ok-Some.ensures.counts
+    (rw c.plus.ensures at c.plus-counts.ensures) more
     (apart_more selector (λ q. text_by selector q.first) (λ q. text_by selector q.second) s.these this was
     (each g.W.Sink.seen c.pairs.writers) is c.pairs.blocks s.put left
     c.in_ok-judged-in-Ok-Some.ensures.ok)
@@ -189,8 +189,8 @@ pairs-preserved g c =
     let is : Sides Written = each g.W.Sink.seen c.put_in_two.new.writers in
     let left : Sides (List ℕ) = c.put_in_two.new.blocks in
     pairing_more s new reader (λ these. Drain was is (first_text selector these) (second_text selector these) left) c.in-Ok-Some.reads
-    c.in_ok-judged-in-Ok-Some.judged c.and-counts.result given c.in_ok-judged-in-Ok-Some.ensures.counts
-    (rw c.and.ensures at c.and-counts.ensures) more
+    c.in_ok-judged-in-Ok-Some.judged c.plus-counts.result given c.in_ok-judged-in-Ok-Some.ensures.counts
+    (rw c.plus.ensures at c.plus-counts.ensures) more
     (apart_more selector (λ q. text_by selector q.first) (λ q. text_by selector q.second) s.these this was
     (each g.W.Sink.seen c.pairs.writers) is c.pairs.blocks s.put left
     c.in_ok-judged-in-Ok-Some.ensures.ok)

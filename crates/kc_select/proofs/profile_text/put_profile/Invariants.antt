@@ -4,7 +4,8 @@ use Rattle.kc_select.specs.Profiles.{name_of, run_lines}
 use Rattle.kc_select.specs.CountWalks.{runs_left}
 use Rattle.kc_select.proofs.profile_text.put_profile.Given as goal
 
--- of the lines that were to be put a front was taken, and behind it are those of the block and of the runs that are left
+-- of the lines that were to be put a prefix was taken, and after it are those of the block and of the runs that are
+-- left
 abbrev pub invariant-runs : goal.invariant-runs
 invariant-runs g l = record {
   name : l.name ≡ name_of l.fn.title;

@@ -19,7 +19,7 @@ returns-in_err-make_room-clause-err g c =
     (drains_then_begins c.args.block.now c.args.name.now (run_numbers c.args.run) c.in_ok-put.ensures.ok
     (begins_more c.in_err-make_room.ensures.err (run_numbers c.args.run)))
 
--- seven texts that are put one behind another are one
+-- seven texts that are put one after another are one
 seven : (s a b c d e f g : List ℕ) → s ++ a ++ b ++ c ++ d ++ e ++ f ++ g ≡ s ++ (a ++ b ++ c ++ d ++ e ++ f ++ g)
 seven s a b c d e f g =
     ap (λ v. v ++ g) (ap (λ v. v ++ f) (ap (λ v. v ++ e) (ap (λ v. v ++ d) (ap (λ v. v ++ c) (append_assoc s a b)

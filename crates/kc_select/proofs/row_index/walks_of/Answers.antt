@@ -14,8 +14,8 @@ loop-preserved c =
     record {
       rest = last-trans all c.loop.rest c.rows_behind-rest.result c.loop.invariant.rest c.rows_behind-rest.ensures;
       last = subst (All (λ rows. AreLast all rows)) (sym c.push_reserved.ensures.items)
-          (All-push (λ rows. AreLast all rows) c.loop.walks.items c.ahead.result c.loop.invariant.last
-          (subst (λ rows. AreLast all rows) (sym c.ahead.ensures) c.loop.invariant.rest));
+          (All-push (λ rows. AreLast all rows) c.loop.walks.items c.second_walk.result c.loop.invariant.last
+          (subst (λ rows. AreLast all rows) (sym c.second_walk.ensures) c.loop.invariant.rest));
       long = omega (arith, len, long);
       room = omega (arith, same, room);
     }

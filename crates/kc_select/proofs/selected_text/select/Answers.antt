@@ -44,8 +44,8 @@ reads-preserved-in_ok-judged-in-Ok-Some g c =
     let given = rw c.in-Ok-Some.field-0-is at c.in-Ok-Some.ensures.given _ _ s.records s.given in
     let more = rw c.in-Ok-Some.field-0-is at c.in-Ok-Some.ensures.used in
     selecting_more s _ c.next_titled.new.self c.put_selected.new.block _ _ c.in_ok-judged-in-Ok-Some.judged
-    c.and-counts.result given (rw c.deref.ensures.value at c.in_ok-judged-in-Ok-Some.ensures.ok)
-    c.in_ok-judged-in-Ok-Some.ensures.counts c.and-counts.ensures more
+    c.plus-counts.result given (rw c.deref.ensures.value at c.in_ok-judged-in-Ok-Some.ensures.ok)
+    c.in_ok-judged-in-Ok-Some.ensures.counts c.plus-counts.ensures more
 
 pub returns-in-Ok-None : goal.returns-in-Ok-None
 returns-in-Ok-None g c =
@@ -79,11 +79,11 @@ reads-preserved g c =
     let given = rw c.in-Ok-Some.field-0-is at c.in-Ok-Some.ensures.given _ _ s.records s.given in
     let more = rw c.in-Ok-Some.field-0-is at c.in-Ok-Some.ensures.used in
     selecting_more s _ c.next_titled.new.self c.put_selected.new.block _ _ c.in_ok-judged-in-Ok-Some.judged
-    c.and-counts.result given (rw c.deref.ensures.value at c.in_ok-judged-in-Ok-Some.ensures.ok)
-    c.in_ok-judged-in-Ok-Some.ensures.counts c.and-counts.ensures more
+    c.plus-counts.result given (rw c.deref.ensures.value at c.in_ok-judged-in-Ok-Some.ensures.ok)
+    c.in_ok-judged-in-Ok-Some.ensures.counts c.plus-counts.ensures more
 
-pub and-counts-requires : goal.and-counts-requires
-and-counts-requires g c =
+pub plus-counts-requires : goal.plus-counts-requires
+plus-counts-requires g c =
     let s = c.reads.invariant in
     let given = rw c.in-Ok-Some.field-0-is at c.in-Ok-Some.ensures.given _ _ s.records s.given in
     let more = rw c.in-Ok-Some.field-0-is at c.in-Ok-Some.ensures.used in

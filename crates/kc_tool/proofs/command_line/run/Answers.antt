@@ -32,9 +32,9 @@ returns-clause-texts g c =
     let parsed = parse_ends _ texts c.try_get_matches_from.result c.in-Ok-command.ensures c.try_get_matches_from.ensures.kinds c.try_get_matches_from.ensures.matches in
     let taken = rw c.in-Ok-try_get_matches_from.is at parsed.0 in
     let asked = asked_for taken c.in-Some.ensures.name c.in-Some.ensures.rows c.in-Some-verb_named.ensures in
-    let done = command_done asked c.in_default-refusal_of.ensures c.run_command-ended.ensures in
-    let said = rw (sym c.as_bytes.ensures) at c.said-said.ensures.asked in
-    let closes = rw (sym c.as_bytes.ensures) at c.said-said.ensures.closing in
+    let done = command_done asked c.in_default-conflict_of.ensures c.run_command-ended.ensures in
+    let said = rw (sym c.as_bytes.ensures) at c.closing_remark-said.ensures.asked in
+    let closes = rw (sym c.as_bytes.ensures) at c.closing_remark-said.ensures.closing in
     let may = may_explain c.in-Ok-try_get_matches_from.matches _ _ taken c.in-Some.ensures.rows said in
     rw (c.in-Ok.is, sym c.deref.ensures.value)
     (record {
@@ -45,8 +45,8 @@ returns-clause-texts g c =
           c.map_err.result c.map_err.ensures.cases closes);
     })
 
-pub returns-in-Some-refusal_of-clause-texts : goal.returns-in-Some-refusal_of-clause-texts
-returns-in-Some-refusal_of-clause-texts g c =
+pub returns-in-Some-conflict_of-clause-texts : goal.returns-in-Some-conflict_of-clause-texts
+returns-in-Some-conflict_of-clause-texts g c =
     let texts = map string_bytes c.deref.result.now in
     let parsed = parse_ends _ texts c.try_get_matches_from.result c.in-Ok-command.ensures c.try_get_matches_from.ensures.kinds c.try_get_matches_from.ensures.matches in
     let taken = rw c.in-Ok-try_get_matches_from.is at parsed.0 in
@@ -55,5 +55,5 @@ returns-in-Some-refusal_of-clause-texts g c =
     (record {
       explained = [];
       may = inl refl;
-      ends = c.tell_end-in-Some-refusal_of.ensures.ends _ texts _ _ (refused_apart _ c.refused.result (are_apart c.in-Some-refusal_of.refusal c.in-Some-verb_named.verb asked c.in-Some-refusal_of.ensures) c.refused.ensures) tt;
+      ends = c.tell_end-in-Some-conflict_of.ensures.ends _ texts _ _ (refused_apart _ c.ending_of_conflict.result (are_apart c.in-Some-conflict_of.conflict c.in-Some-verb_named.verb asked c.in-Some-conflict_of.ensures) c.ending_of_conflict.ensures) tt;
     })

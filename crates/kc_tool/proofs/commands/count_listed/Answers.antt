@@ -7,5 +7,5 @@ use Rattle.kc_tool.proofs.commands.count_listed.Goals as goal
 pub returns-clause-done : goal.returns-clause-done
 returns-clause-done g c =
     let settings = c.args.options.now in
-    rw c.counted.ensures (reported (CountListed settings) _ _ settings (λ table. refl) (λ table. refl) (λ table. tt)
+    rw c.told_of_count.ensures (reported (CountListed settings) _ _ settings (λ table. refl) (λ table. refl) (λ table. tt)
     (not_counted _ _ settings) c.report_listed.result c.report_listed.ensures.done)

@@ -10,5 +10,5 @@ returns-clause-done g c =
     let settings = c.args.options.now in
     let done = put_otherwise settings c.report_given.result (sources_counted None None None _ _ settings tt)
     (λ fault is. sources_refused None None None _ _ settings tt fault) c.report_given.ensures.done in
-    rw c.counted.ensures (reported (Count settings) _ _ settings (λ table. refl) (λ table. refl) (λ table. tt)
+    rw c.told_of_count.ensures (reported (Count settings) _ _ settings (λ table. refl) (λ table. refl) (λ table. tt)
     (not_counted _ _ settings) c.report_given.result done)

@@ -14,5 +14,5 @@ returns-clause-done g c = λ input.
       kept_so (λ task before after answer. SelectsInterleaved task before after was is answer) c.args.pairing.now
           (given_listed input (seen_of g.F.Source.seen c.args.files.now.items)) (given_listed input (seen_of g.F.Source.seen selected.new.files.items))
           selected.result (λ same. ap g.W.Sink.seen same) (selected.ensures.done input),
-      c.told_of.ensures,
+      c.told_of_selection.ensures,
     )

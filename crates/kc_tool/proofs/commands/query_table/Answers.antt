@@ -15,7 +15,7 @@ use Rattle.kc_tool.specs.declared.told.Told.TheVariants.{Nothing}
 use Rattle.kc_tool.proofs.CommandsLemmas.{answered}
 use Rattle.kc_tool.proofs.commands.query_table.Goals as goal
 
--- Why a query was not answered.
+-- Why a query was not written.
 unanswered : (words : Vec (String Global) Global) (table : TableSeen) (old new : Written) (why : ReportFault)
     → Queried {A = Unit {0}} old new table.0 (map string_bytes words.items) (Err why) → Answers (Query words) table old new (Err (report_fault why))
 unanswered words table old new (report.BadWord number) h = (h.1, h.0)
@@ -34,7 +34,7 @@ unanswered words table old new report.ShortGzip h = absurd h
 pub returns-clause-done : goal.returns-clause-done
 returns-clause-done g c =
     let before = given None (seen_in g.R.Source.seen g.F.Source.seen c.args.sources.now) in
-    let after = given None (seen_in g.R.Source.seen g.F.Source.seen c.asked_of.new.sources) in
+    let after = given None (seen_in g.R.Source.seen g.F.Source.seen c.asked_rows.new.sources) in
     let old = g.W.Sink.seen c.args.output.now in
     let new = g.W.Sink.seen c.query.new.writer in
     let words = c.args.words.now in
@@ -50,7 +50,7 @@ returns-clause-done g c =
 pub returns-in_err-query-clause-done : goal.returns-in_err-query-clause-done
 returns-in_err-query-clause-done g c =
     let before = given None (seen_in g.R.Source.seen g.F.Source.seen c.args.sources.now) in
-    let after = given None (seen_in g.R.Source.seen g.F.Source.seen c.asked_of.new.sources) in
+    let after = given None (seen_in g.R.Source.seen g.F.Source.seen c.asked_rows.new.sources) in
     let old = g.W.Sink.seen c.args.output.now in
     let new = g.W.Sink.seen c.query.new.writer in
     let words = c.args.words.now in

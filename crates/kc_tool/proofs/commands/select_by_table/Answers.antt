@@ -36,11 +36,11 @@ returns g c =
     record {
       done = listed_done seen seen_file given mid c.index-files-0.result later c.requires.own c.requires.some refl refl refl new.sources kept
           (λ before after. SelectsBy c.args.selection c.args.tells (record { given = before; output = g.W.Sink.seen c.args.output.now })
-          (record { given = after; output = g.W.Sink.seen new.writer }) c.told_of.result)
+          (record { given = after; output = g.W.Sink.seen new.writer }) c.told_of_selection.result)
           (inl (
             (c.in_ok-tally.tally, c.in_ok-tally._origin),
             c.in_ok-tally.ensures.table,
-            (c.select_given-selected.result, c.told_of.ensures, c.select_given-selected.ensures.selects),
+            (c.select_given-selected.result, c.told_of_selection.ensures, c.select_given-selected.ensures.selects),
           ));
       kept = files_both seen seen_file
           (first_read seen seen_file given mid c.index-files-0.result later c.requires.own c.requires.some refl refl refl refl)

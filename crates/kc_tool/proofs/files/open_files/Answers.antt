@@ -13,5 +13,5 @@ loop-name-preserved g c = record {
 
 pub returns-in_default-clause-fault : goal.returns-in_default-clause-fault
 returns-in_default-clause-fault g c =
-    opened_short c.args.names.now c.loop-name.name-index _ c.open_failed.result c.loop-name-test.true c.loop-name.invariant.opens c.in_default.ensures.asked
-    c.take_sources.ensures c.open_failed.ensures
+    opened_short c.args.names.now c.loop-name.name-index _ c.open_fault.result c.loop-name-test.true c.loop-name.invariant.opens c.in_default.ensures.asked
+    c.take_sources.ensures c.open_fault.ensures

@@ -24,7 +24,7 @@ returns g c =
     (λ table h. (later, subst (λ v. Counts (given only v) later settings table) is (sources_counted words only list.0 _ after settings list.1 table h)))
     (λ fault is_err h. (later, subst (λ v. RefusesCount (given only v) later settings fault) is (sources_refused words only list.0 _ after settings list.1 fault h)))
     c.report_sources.ensures) in
-    rw c.done.ensures (record { written = told.0; begun = told.1; refused = told.2 })
+    rw c.without_counts.ensures (record { written = told.0; begun = told.1; refused = told.2 })
 
 pub returns-in_err-list : goal.returns-in_err-list
 returns-in_err-list g c =

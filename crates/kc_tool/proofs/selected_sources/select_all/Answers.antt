@@ -29,13 +29,13 @@ loop-i-preserved g c =
     let within : loop.i < length (seen loop.sources) = omega (arith, loop.invariant.as_many, c.count-i-end.ensures) in
     let some : 1 ≤ c.args.selector.now.tally.k = omega (arith, c.get-bases.ensures.some, c.k.ensures) in
     record {
-      so_far = rw c.and-counts.ensures (selected_read (g.W.Sink.seen c.read.new.state) loop.invariant.so_far within c.in_ok-selected.selected some at);
+      so_far = rw c.plus-counts.ensures (selected_read (g.W.Sink.seen c.read.new.state) loop.invariant.so_far within c.in_ok-selected.selected some at);
       as_many = ap length at.are ∙ length-set (seen loop.sources) loop.i at.later ∙ loop.invariant.as_many;
       kept = keeps_both g.R.Source.seen g.F.Source.seen loop.invariant.kept c.in_ok-selected.ensures.kept;
     }
 
-pub and-counts-requires : goal.and-counts-requires
-and-counts-requires g c =
+pub plus-counts-requires : goal.plus-counts-requires
+plus-counts-requires g c =
     let loop = c.loop-i in
     let some : 1 ≤ c.args.selector.now.tally.k = omega (arith, c.get-bases.ensures.some, c.k.ensures) in
     let at = c.in_ok-selected.ensures.one in

@@ -10,7 +10,7 @@ use Rattle.kc_word.specs.Only.{IsListOf}
 use Rattle.kc_word.proofs.OnlyLemmas.{listed-words, list-of}
 use Rattle.kc_word.proofs.only_laws.worked_rows.Goals as goal
 
--- rising words that the reads have are their list
+-- ascending words that the reads have are their list
 row : (rule : CountingRule) (reads : List Read) (words : List ℕ) → IsStrictlyIncreasing words → words_of rule reads ≡ words
     → IsListOf rule reads (record { k = rule.k; both = rule.both; words = words })
 row rule reads words rising are =

@@ -16,8 +16,8 @@ order-requires g c =
     (own-keys-fit c.self.inside.setup c.self.inside.number (g.C.Counts.bits c.self.inside.counted.table) c.args.cuts.now
     c.cuts.inside.keys.now keys own All-words_of kept.divided kept.bits_are)
 
-pub enter_counted-requires-clause-room : goal.enter_counted-requires-clause-room
-enter_counted-requires-clause-room g c =
+pub count_and_enter-requires-clause-room : goal.count_and_enter-requires-clause-room
+count_and_enter-requires-clause-room g c =
     let keys = c.cuts.invariant.keys_are ∙ ap all_keys_of c.cuts.view_is in
     let order = ordered-keys keys c.in_ok-order.ensures.same (c.deref.ensures.value ∙ c.ordered.view_is) in
     omega (arith, c.in_ok-check_all.ensures.room, length_permutation _ _ order)
@@ -26,4 +26,4 @@ pub returns-clause-total : goal.returns-clause-total
 returns-clause-total g c =
     let keys = c.cuts.invariant.keys_are ∙ ap all_keys_of c.cuts.view_is in
     let order = ordered-keys keys c.in_ok-order.ensures.same (c.deref.ensures.value ∙ c.ordered.view_is) in
-    rw (← length_permutation _ _ order) c.enter_counted.ensures.total
+    rw (← length_permutation _ _ order) c.count_and_enter.ensures.total

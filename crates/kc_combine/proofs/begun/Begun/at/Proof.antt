@@ -1,4 +1,4 @@
--- `at` picks what is seen of the source. Assumes `Logic`.
+-- `at` picks the view of the source. Assumes `Logic`.
 use Rattle.std.proofs.Common.{[], ◌∷◌, refl}
 use Rattle.std.proofs.raw_atomic.Walks.{proved}
 use mir.Syntax.{a_type, dcons, dnil, named}

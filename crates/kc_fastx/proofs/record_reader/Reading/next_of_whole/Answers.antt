@@ -24,7 +24,7 @@ next_record-next-requires c =
     let left = c.pass_blanks.ensures.left in
     ap skip_blanks left ∙ skip_blanks-again (lines c.whole_lines-whole.result.now) ∙ sym left
 
--- the answer stays right, whatever the source still gives
+-- the result stays right, whatever the source still gives
 is_sure : (c : Joined-else-not-self)
     → (c.args.self.now.ended ≡ true) ⊎ IsSure c.next_record-next.result c.next_record-next.new.lines.left
 is_sure c = elim c.else-not-self.branch [

@@ -10,7 +10,7 @@ use Rattle.kc_hash.proofs.matrix.Matrix.of_seed.Goals as goal
 pub loop-index-init : goal.loop-index-init
 loop-index-init c = (copies_none _ _ _ refl, c.seed_from_u64-generator.ensures.same ∙ sym (state_starts mix_u64 c.args.seed))
 
--- the number that was drawn, low bits kept, and the state behind it
+-- the number that was drawn, low bits kept, and the state after it
 drawn : (number state next seed index bits : ℕ) → (number, next) ≡ mix_u64 state → state ≡ state_after mix_u64 index seed
     → (number % 2 ^ bits ≡ (mix_u64 (state_after mix_u64 index seed)).0 % 2 ^ bits) × (next ≡ state_after mix_u64 (index + 1) seed)
 drawn number state next seed index bits is at =

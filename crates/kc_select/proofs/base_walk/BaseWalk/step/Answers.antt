@@ -13,7 +13,7 @@ usable_code-code-requires c =
     let here = subst (λ w. w.taken < length w.bytes) (sym c.self.view_is) c.requires in
     omega (arith, long, here)
 
--- the place as it was
+-- the place before
 abbrev place : After-usable_code-code → Walking
 place c = record { rule = c.self.inside.rolled.rule; bytes = cleaned c.self.inside.rolled.rule c.self.inside.read.now; taken = c.self.inside.at }
 

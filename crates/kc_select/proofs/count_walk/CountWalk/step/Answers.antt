@@ -7,7 +7,7 @@ use Rattle.kc_select.proofs.CountWalkLemmas.{taken-word, counted, runs-early, ru
 use Rattle.kc_select.proofs.count_walk.CountWalk.step.Goals as goal
 use Rattle.kc_select.proofs.count_walk.CountWalk.step.Goals.{After-usable_code-code}
 
--- the walk as it was
+-- the walk before
 abbrev old : After-usable_code-code → CountWalking
 old c = record {
   tally = c.self.inside.index.now;

@@ -6,7 +6,7 @@ use Rattle.kc_table.proofs.SlotNumbers.{number_there, number_put, IsNumberOf, sl
 use Rattle.kc_table.proofs.packed_slots.PackedSlots.put.Goals as goal
 use Rattle.kc_table.proofs.packed_slots.PackedSlots.put.Goals.{Then-count-mask, Else-count-mask}
 
--- the number that is put, where the count stands in its low bits, and where they are all 1
+-- the number that is put, if the count is in its low bits, and if they are all 1
 within : (c : Then-count-mask) → IsNumberOf c.self.inside.low (width_of c.self.inside.numbers) c.args.tag c.args.count
     (c.tag.inside.number * 2 ^ c.self.inside.low % 2 ^ 64 + c.args.count)
 within c =

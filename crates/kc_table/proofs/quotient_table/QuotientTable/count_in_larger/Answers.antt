@@ -14,16 +14,16 @@ out c =
     out_by_others c.self.inside.slots.slots.items c.self.inside.slots.sound c.args.key
     (subst (λ t. IsShutOut t c.args.key) (sym c.self.view_is) c.requires.shut_out)
 
-pub grown-requires-clause-new : goal.grown-requires-clause-new
-grown-requires-clause-new c =
+pub to_larger_with-requires-clause-new : goal.to_larger_with-requires-clause-new
+to_larger_with-requires-clause-new c =
     get_out c.self.inside.slots.slots.items c.self.inside.slots.sound c.args.key
-    (out (goal.at.grown-requires-clause-new c).After-self)
+    (out (goal.at.to_larger_with-requires-clause-new c).After-self)
 
-pub grown-requires-clause-tight : goal.grown-requires-clause-tight
-grown-requires-clause-tight c =
+pub to_larger_with-requires-clause-tight : goal.to_larger_with-requires-clause-tight
+to_larger_with-requires-clause-tight c =
     small_by_out _ _ c.args.key _ c.self.inside.slots (record { same_bits = refl; same_log = refl; same_counts = refl })
     (subst (λ t. c.args.key < 2 ^ t.bits) (sym c.self.view_is) c.requires.in_range)
-    (out (goal.at.grown-requires-clause-tight c).After-self)
+    (out (goal.at.to_larger_with-requires-clause-tight c).After-self)
 
 pub returns-clause-new_count : goal.returns-clause-new_count
 returns-clause-new_count c =

@@ -11,12 +11,12 @@ pub invariant_of-self-inside : goal.invariant_of-self-inside
 invariant_of-self-inside c =
     table_kept c.self.inside.slots c.in-Free.place _ _ _ (c.in-Free.ensures.room.sound 0) c.put.ensures.tag_bits c.put.ensures.put
 
-pub grown-requires-clause-new : goal.grown-requires-clause-new
-grown-requires-clause-new c =
+pub to_larger_with-requires-clause-new : goal.to_larger_with-requires-clause-new
+to_larger_with-requires-clause-new c =
     get_out c.self.inside.slots.slots.items c.self.inside.slots.sound c.args.key c.in-Crowded.ensures.walked.0
 
-pub grown-requires-clause-tight : goal.grown-requires-clause-tight
-grown-requires-clause-tight c =
+pub to_larger_with-requires-clause-tight : goal.to_larger_with-requires-clause-tight
+to_larger_with-requires-clause-tight c =
     small_by_out _ _ c.args.key _ c.self.inside.slots (record { same_bits = refl; same_log = refl; same_counts = refl })
     (subst (λ t. c.args.key < 2 ^ t.bits) (sym c.self.view_is) c.requires) c.in-Crowded.ensures.walked.0
 

@@ -8,7 +8,7 @@ use Rattle.kc_table.proofs.Writing.{table_kept, sound_slot_count_put, count_here
 use Rattle.kc_table.proofs.quotient_table.QuotientTableCounts.uncount.Goals as goal
 use Rattle.kc_table.proofs.quotient_table.QuotientTableCounts.uncount.Goals.{In-Some}
 
--- the key stands at the place
+-- the key is at the place
 found : (c : In-Some) → IsFound c.self.inside.slots.log (slot_tags c.self.inside.slots) c.args.key c.in-Some.place
 found c =
     found_at c.self.inside.slots.slots.items c.self.inside.slots.sound c.args.key c.in-Some.place

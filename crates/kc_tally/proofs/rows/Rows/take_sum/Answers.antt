@@ -14,4 +14,4 @@ returns-clause-some c =
     record { whole = sym c.self.view_is; front = c.in-Some.ensures.some } in
     let other : InParts c.args.other.now c.other.inside.part (all_rows c.other.inside.later.now) c.in-Some-first.second _ =
     record { whole = sym c.other.view_is; front = c.in-Some-first.ensures.some } in
-    sum-in_parts one other is c.pass.ensures c.pass-2.ensures
+    sum-in_parts one other is c.skip_first_if.ensures c.skip_first_if-2.ensures

@@ -8,7 +8,7 @@ use Rattle.kc_tool.proofs.ReadCountLemmas.{read_count-gives}
 use Rattle.kc_tool.proofs.CleaningLemmas.{no_piece, one_more_piece}
 use Rattle.kc_tool.proofs.counted_sources.ReadsInCutting.take.Goals as goal
 
--- A reader that gave a read, or told that none is left, has not failed.
+-- A reader that gave a read, or returned that none is left, has not failed.
 unfailed : (start now : Seen) (limit : ℕ) (reads : List Read) (stand : Stand) (next : Option Read)
     → GivesNext start now limit reads stand (Ok next) → stand.failed ≡ None
 unfailed start now limit reads stand (Some read) given = given.unfailed

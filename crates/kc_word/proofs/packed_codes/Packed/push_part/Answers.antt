@@ -7,7 +7,7 @@ use Rattle.kc_word.proofs.packed_codes.Packed.push_part.Goals as goal
 use Rattle.kc_word.proofs.packed_codes.Packed.push_part.Goals.{After-min-filled, Joined-filled-gt0, then-filled-gt0, else-filled-gt0}
 use Rattle.kc_word.proofs.packed_codes.Packed.push_part.Goals.{then-filled-more+in_ok-push_number, else-filled-more}
 
--- how many codes stand there already
+-- how many codes are there already
 used : (c : After-min-filled) → c.self.inside.len ≡ length c.loop-j.self
 used c = sym (length-codes_of c.self.inside.numbers.items c.self.inside.len) ∙ ap length c.self.view_is
 
@@ -47,7 +47,7 @@ overflow_add-self c =
     let fits = c.requires.fits in
     omega (arith, now, long, test, end, more, filled, fits)
 
--- how many codes stand there once the last number is full
+-- how many codes are there once the last number is full
 now_long : (c : Joined-filled-gt0) → length (codes_of c.if-filled-gt0.self-inside.numbers.items c.if-filled-gt0.self-inside.len)
     ≡ length c.loop-j.self + c.min-filled.result
 now_long c =

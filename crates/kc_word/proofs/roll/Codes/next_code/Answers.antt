@@ -21,7 +21,7 @@ left c =
     let below = c.requires in
     omega (arith, long, at, below, begun)
 
--- its code stands in the numbers
+-- its code is in the numbers
 packed : (c : After-bases) → (c.self.inside.at < c.bases.inside.len) × (c.self.inside.at / 32 < vec_len c.bases.inside.numbers)
 packed c =
     let some = left c in

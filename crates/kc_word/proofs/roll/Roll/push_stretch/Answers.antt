@@ -28,7 +28,7 @@ free-taken c = elim c.if-codes.branch [
       free-behind c.codes.inside.runs.now c.codes.inside.next c.codes.inside.at c.if-codes.count c.codes.invariant.passed (omega (arith, passed, last))
 ]
 
--- the place behind i of the bases
+-- the place after i of the bases
 abbrev place : Joined-count-gt0 → ℕ → Walking
 place c i = record { rule = c.args.self.rule; bytes = c.args.self.bytes; taken = c.args.self.taken + i }
 

@@ -36,7 +36,7 @@ overflow_add-self-2 c =
     let small = backward-fits (bit_and c.args.code 3) c.get-k.result same (omega (arith, same, some)) (omega (arith, same, most)) walks.rolled in
     omega (arith, small)
 
--- what is seen of the numbers behind the code
+-- the view of the numbers after the code
 rolled : Joined-code → Rolled
 rolled c = record {
   rule = c.args.self.now.rule;

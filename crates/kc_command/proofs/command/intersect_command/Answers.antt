@@ -1,0 +1,35 @@
+use Rattle.std.proofs.Common.{ap, sym, subst}
+use Rattle.std.proofs.lemmas.Result.{IfOk-weaker}
+use Rattle.clap.specs.Words.{App}
+use Rattle.kc_command.specs.Command.{intersect_shape}
+use Rattle.kc_command.proofs.CommandLemmas.{HaveRules, all_added}
+use Rattle.kc_command.proofs.command.intersect_command.Goals as goal
+
+pub returns : goal.returns
+returns c =
+    let have : HaveRules c.in_ok-arguments.arguments.items intersect_shape.rules =
+    subst (λ arguments. HaveRules arguments intersect_shape.rules) (sym c.in_ok-arguments.ensures.items)
+    ((
+      c.take.ensures.own,
+      c.take.ensures.rule,
+      (
+        c.output.ensures.own,
+        c.output.ensures.rule,
+        (
+          c.explain.ensures.own,
+          c.explain.ensures.rule,
+          (
+            c.first.ensures.own,
+            c.first.ensures.rule,
+            (
+              c.second.ensures.own,
+              c.second.ensures.rule,
+              tt,
+            ),
+          ),
+        ),
+      ),
+    )
+    ) in
+    IfOk-weaker c.args-2.result _ _
+    (λ command adds. ap (λ (a : App). a.top) (all_added c.command_with_help.result command _ c.in_ok-arguments.arguments.items intersect_shape.rules adds have c.command_with_help.ensures)) c.args-2.ensures

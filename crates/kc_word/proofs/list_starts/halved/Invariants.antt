@@ -1,8 +1,0 @@
-use Rattle.std.proofs.Common.{◌≤◌, ◌-◌, length}
-use Rattle.kc_word.proofs.list_starts.halved.Given as goal
-
-abbrev pub invariant-loop-from : goal.invariant-loop-from
-invariant-loop-from l = l.end ≤ length l.words
-
-abbrev pub decreases-loop-from : goal.decreases-loop-from
-decreases-loop-from l = l.end - l.from

@@ -1,0 +1,58 @@
+#!/usr/bin/env python3
+"""Checks that each edit can be tried, without a proof:
+    tools/check_edits.py [CRATE..]
+It reads each file of crates/NAME/edits and crates/NAME/must-fail as the tools that try it do: the old text occurs exactly
+once in the file, or in the function that the edit names, and the function of each line `refused:` is in the crate. It
+prints each edit that can't be tried, and then the status is 1. It takes seconds; `make edits` tries the edits.
+"""
+
+import os
+import sys
+
+import edits
+import judging
+import kit
+
+
+def functions_in(folder):
+    """Returns the names of the functions in the sources of the crate in this folder."""
+    return {it.name for path in judging.files_in(folder, "src/**/*.rt") for it in judging.functions_of(folder, path)}
+
+
+def is_there(edit, there):
+    """Returns whether one of these functions, or one that the edit adds, is the one that has to be refused."""
+    added = f"fn {edit.refused.rpartition('::')[2]}("
+    return edit.refused in there or any(added in it for it in edit.lines.values())
+
+
+def faults_of_edits(rt, crate):
+    """Returns for each file of edits/ that can't be tried its path and why."""
+    read, failed = edits.read_all(rt, crate)
+    there = functions_in(crate.folder)
+    failed |= {it.name: f"there is no function {it.refused}" for it in read if not is_there(it, there)}
+    failed |= {it.name: "it changes nothing" for it in read if not it.lines}
+    return {f"{edits.FOLDER}/{name}.edit": why for name, why in failed.items()}
+
+
+def faults_of_bodies(rt, crate):
+    """Returns for each file of must-fail/ that can't be tried its path and why."""
+    paths = judging.files_in(crate.folder, "must-fail/*.edit")
+    read = {it: rt.read_edit(f"{crate.folder}/{it}", crate.folder) for it in paths}
+    return {path: why for path, (_, why) in read.items() if why}
+
+
+def main(names):
+    rt = kit.load()
+    count = bad = 0
+    for crate in (it for it in kit.crates_of(rt) if not names or it.name in names):
+        count += len(edits.files_of(crate.folder)) + len(judging.files_in(crate.folder, "must-fail/*.edit"))
+        faults = faults_of_edits(rt, crate) | faults_of_bodies(rt, crate)
+        for path, why in faults.items():
+            print(f"{os.path.relpath(crate.folder, kit.TOP)}/{path}: {why}")
+        bad += len(faults)
+    print(f"{count - bad} edits can be tried, {bad} can't")
+    return 1 if bad or not count else 0
+
+
+if __name__ == "__main__":
+    sys.exit(main(sys.argv[1:]))
