@@ -35,7 +35,7 @@ use Rattle.kc_combine.specs.declared.begun.Begun.{Begun}
 use Rattle.kc_report.specs.RowByRow.{TableStand}
 use Rattle.kc_combine.specs.OpenTables.{Fails, Gave, GaveAll, GaveFirst, IsOpened, whence_of, whence_of_source}
 use Rattle.kc_report.specs.Table.{MaySay}
-use Rattle.kc_combine.specs.CombinedTexts.{AreJoined, AreOpened, AreOpenedTo, CombinesNot, CombinesTexts, CountsTooMuch, FailsToTake, GaveSoFar, GiveTables, TookSoFar, HasHeaderOf, HasNoHeaderOf, IsJoined, header_fault, header_of, header_seen, source_of}
+use Rattle.kc_combine.specs.CombinedTexts.{AreJoined, AreOpened, AreOpenedTo, CombinesNot, CombinesTexts, CountsTooMuch, FailsToTake, GaveSoFar, GiveTables, TookSoFar, HasHeaderOf, HasNoHeaderOf, IsHeaderOfOpened, IsJoined, header_fault, header_of, header_seen, source_of}
 
 some-inj : {A : Type 0} {a b : A} → ◌≡◌ {A = Option A} (Some a) (Some b) → a ≡ b
 some-inj e = cc
@@ -350,25 +350,27 @@ module _ {S F : Type 0} {G : Ghosts (OpenTable S) F} (seen : S → Seen) (limit 
 -- ---- why nothing whole was written
 
 module _ {R F : Type 0} {G : Ghosts R F} (Gave Whole : R → List Row → Type 0) (Fails : R → List Row → F → Type 0)
-    (Took : List (List Row) → Type 0) (afters : List (Ahead R F G))
+    (IsHeader : Header → Type 0) (Took : List (List Row) → Type 0) (afters : List (Ahead R F G))
     (taken : (tables : List (List Row)) → HaveTaken Gave Whole afters tables → Took tables)
     (whole : (tables : List (List Row)) → AreWhole Whole afters tables → Took tables) where
   -- a count, or the sum of the counts, is too large
   pub too_much : (combining : Combining) (header : Header) (start now : Written) (rows : List Row)
-      → HasTakenFront start now header rows
+      → IsHeader header → HasTakenFront start now header rows
       → StopsAt Gave Whole Fails (rule_of combining) afters rows walking.TooLarge
       ⊎ ((row : Row) × GoesOn Gave Whole (rule_of combining) afters rows (Some row) × (2 ^ 62 < total_of rows + row.count))
-      → CountsTooMuch Took combining start now
-  too_much combining header start now rows front (inl stops) = record {
+      → CountsTooMuch IsHeader Took combining start now
+  too_much combining header start now rows headed front (inl stops) = record {
     header = header;
+    headed = headed;
     rows = rows;
     front = front;
     tables = stops.0;
     took = taken stops.0 stops.1;
     above = inl stops.2;
   }
-  too_much combining header start now rows front (inr more) = record {
+  too_much combining header start now rows headed front (inr more) = record {
     header = header;
+    headed = headed;
     rows = rows;
     front = front;
     tables = more.1.1;
@@ -378,18 +380,21 @@ module _ {R F : Type 0} {G : Ghosts R F} (Gave Whole : R → List Row → Type 0
 
   -- the writer failed
   pub not_taken : (combining : Combining) (header : Header) (start now : Written) (rows : List Row)
+      → IsHeader header
       → ((row : Row) × GoesOn Gave Whole (rule_of combining) afters rows (Some row) × HasBegun start now (front_of header rows))
       ⊎ (IsResultOf Whole (rule_of combining) header.k afters rows × HasBegun start now (text_of header rows))
-      → FailsToTake Took combining start now
-  not_taken combining header start now rows (inl more) = record {
+      → FailsToTake IsHeader Took combining start now
+  not_taken combining header start now rows headed (inl more) = record {
     header = header;
+    headed = headed;
     rows = rows;
     tables = more.1.1;
     took = taken more.1.1 more.1.2.taken;
     failed = inl (more.1.0, more.0, more.1.2.combined, more.2);
   }
-  not_taken combining header start now rows (inr all) = record {
+  not_taken combining header start now rows headed (inr all) = record {
     header = header;
+    headed = headed;
     rows = rows;
     tables = all.0.tables;
     took = whole all.0.tables all.0.whole;
@@ -520,24 +525,27 @@ module _ {S : Type 0} {G : Ghosts (OpenTable S) PlacedFault} (seen : S → Seen)
   pub combines_not : (combining : Combining) (olds sources : List S) (openings : List Opening) (header : Header)
       (aheads afters : List (Ahead (OpenTable S) PlacedFault G)) (start now : Written)
       → AreOpened seen limit olds sources openings → AreJoined limit 1 sources openings aheads
+      → HasHeaderOf combining (map header_of openings) header
       → whences_of whence_of afters ≡ whences_of whence_of aheads → (fault : CombineFault PlacedFault)
       → FailsToWrite (Gave seen) (GaveAll seen) (Fails seen) (rule_of combining) header start now afters fault
       → CombinesNot seen combining limit olds (map source_of afters) start now fault
-  combines_not combining olds sources openings header aheads afters start now opened joined same (Table fault) h =
-      let at = h.1.1 in
-      (fails_one 1 olds sources openings aheads afters at.1 fault opened joined same at.3, inr (header, h.0, h.1.0))
-  combines_not combining olds sources openings header aheads afters start now opened joined same Unlike h = absurd h.1
-  combines_not combining olds sources openings header aheads afters start now opened joined same TooLarge h = inr
-      (too_much (Gave seen) (GaveAll seen) (Fails seen) (TookSoFar seen limit olds (map source_of afters)) afters
+  combines_not combining olds sources openings header aheads afters start now opened joined headed same (Table fault) h =
+      let at = h.1.1 in (
+        fails_one 1 olds sources openings aheads afters at.1 fault opened joined same at.3,
+        inr (header, (sources, openings, opened, headed), (h.0, h.1.0)),
+      )
+  combines_not combining olds sources openings header aheads afters start now opened joined headed same Unlike h = absurd h.1
+  combines_not combining olds sources openings header aheads afters start now opened joined headed same TooLarge h = inr
+      (too_much (Gave seen) (GaveAll seen) (Fails seen) (IsHeaderOfOpened seen combining limit olds) (TookSoFar seen limit olds (map source_of afters)) afters
       (λ tables. took_so_far seen limit 1 olds sources openings aheads afters tables opened joined same)
       (λ tables. whole_so_far seen limit 1 olds sources openings aheads afters tables opened joined same)
-      combining header start now h.0 h.1.0 h.1.1)
-  combines_not combining olds sources openings header aheads afters start now opened joined same Write h =
-      not_taken (Gave seen) (GaveAll seen) (Fails seen) (TookSoFar seen limit olds (map source_of afters)) afters
+      combining header start now h.0 (sources, openings, opened, headed) h.1.0 h.1.1)
+  combines_not combining olds sources openings header aheads afters start now opened joined headed same Write h =
+      not_taken (Gave seen) (GaveAll seen) (Fails seen) (IsHeaderOfOpened seen combining limit olds) (TookSoFar seen limit olds (map source_of afters)) afters
       (λ tables. took_so_far seen limit 1 olds sources openings aheads afters tables opened joined same)
       (λ tables. whole_so_far seen limit 1 olds sources openings aheads afters tables opened joined same)
-      combining header start now h.0 h.1
-  combines_not combining olds sources openings header aheads afters start now opened joined same Memory h = h
+      combining header start now h.0 (sources, openings, opened, headed) h.1
+  combines_not combining olds sources openings header aheads afters start now opened joined headed same Memory h = h
 
 -- ---- a vector that was lent as a slice
 

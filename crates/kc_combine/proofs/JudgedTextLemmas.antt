@@ -12,7 +12,7 @@ use Rattle.kc_report.specs.Table.{MaySay}
 use Rattle.kc_report.specs.TableReading.{GivesTable}
 use Rattle.kc_combine.specs.CombinedHeaders.{CombinesHeaders}
 use Rattle.kc_combine.specs.CombinedTexts.{GiveTables, HasHeaderOf, header_fault, header_seen}
-use Rattle.kc_combine.specs.JudgedTexts.{CanCombine, CanNotCombine, FitsInto, GiveTablesTo, JudgesNot, total_of_all}
+use Rattle.kc_combine.specs.JudgedTexts.{CanCombine, CanNotCombine, FitsInto, GiveTablesTo, IsHeaderButTooLarge, JudgesNot, total_of_all}
 use Rattle.kc_combine.specs.MergedTables.{TableSeen}
 use Rattle.kc_combine.specs.declared.combining.Combining.{Combining}
 use Rattle.kc_combine.specs.declared.combining.Combining.TheVariants.{Merge, Intersect, Subtract, SubtractCounts, Filter}
@@ -104,6 +104,13 @@ all_fit Subtract tables total is fits = tt
 all_fit SubtractCounts tables total is fits = tt
 all_fit (Filter rule) tables total is fits = tt
 
+-- they have a header, but their counts are too large
+pub header_but_too_large : (combining : Combining) (tables : List TableSeen) (header : Header) (total : ℕ)
+    → HasHeaderOf combining (map header_seen tables) header → total ≡ min (total_of_all tables) (2 ^ 64 - 1)
+    → (¬ FitsInto combining total) → IsHeaderButTooLarge combining tables
+header_but_too_large combining tables header total headed is not =
+    ((header, headed), λ fits. not (all_fit combining tables total is fits))
+
 module _ {S : Type 0} (seen : S → Seen) (limit : ℕ) where
   pub can_combine : (combining : Combining) (olds news : List S) (tables : List TableSeen) (header : Header) (total : ℕ)
       → GiveTables limit (map seen olds) (map seen news) tables → HasHeaderOf combining (map header_seen tables) header
@@ -118,12 +125,16 @@ module _ {S : Type 0} (seen : S → Seen) (limit : ℕ) where
   }
   can_combine combining olds news tables header total given headed is (Err fault) one fits = tt
 
-  pub can_not : (combining : Combining) (olds news : List S) (tables : List TableSeen) (total : ℕ)
-      → GiveTables limit (map seen olds) (map seen news) tables → total ≡ min (total_of_all tables) (2 ^ 64 - 1)
+  pub can_not : (combining : Combining) (olds news : List S) (tables : List TableSeen) (header : Header) (total : ℕ)
+      → GiveTables limit (map seen olds) (map seen news) tables → HasHeaderOf combining (map header_seen tables) header
+      → total ≡ min (total_of_all tables) (2 ^ 64 - 1)
       → (result : Result Header (CombineFault PlacedFault))
       → IfErr result (λ fault. (fault ≡ TooLarge) × (¬ FitsInto combining total))
       → IfErr result (JudgesNot seen combining limit olds news)
-  can_not combining olds news tables total given is (Ok same) h = tt
-  can_not combining olds news tables total given is (Err fault) h =
-      subst (JudgesNot seen combining limit olds news) (sym h.0)
-      (record { tables = tables; given = given; none = inr (refl, λ fits. h.1 (all_fit combining tables total is fits)) })
+  can_not combining olds news tables header total given headed is (Ok same) h = tt
+  can_not combining olds news tables header total given headed is (Err fault) h =
+      subst (JudgesNot seen combining limit olds news) (sym h.0) (record {
+        tables = tables;
+        given = given;
+        none = inr (refl, header_but_too_large combining tables header total headed is h.1);
+      })

@@ -108,13 +108,17 @@ GiveTables limit olds news tables = ⊥
 abbrev pub header_seen : TableSeen → Header
 header_seen table = record { k = table.0.k; both = table.0.both; origin = table.1 }
 
+-- the rows of each table
+abbrev pub rows_of_each : List TableSeen → List (List Row)
+rows_of_each tables = map (λ table. table.0.rows) tables
+
 -- the table text of the combination of these tables was written: its header and its rows
 pub record CombinesTables (combining : Combining) (tables : List TableSeen) (start now : Written)
     (totals : Totals) : Type 0 where
   pub header : Header
   pub headed : HasHeaderOf combining (map header_seen tables) header
   pub rows : List Row
-  pub combined : IsCombined header.k (rule_of combining) (map (λ table. table.0.rows) tables) rows
+  pub combined : IsCombined header.k (rule_of combining) (rows_of_each tables) rows
   pub written : HasWritten start now (text_of header rows)
   pub distinct : totals.distinct ≡ length rows
   pub total : totals.total ≡ total_of rows
@@ -140,9 +144,15 @@ TookSoFar seen limit (old ∷ olds) (new ∷ news) (rows ∷ tables) =
     GaveSoFar (seen old) (seen new) limit rows × TookSoFar seen limit olds news tables
 TookSoFar seen limit olds news tables = ⊥
 
--- the writer took a beginning of a table text up to some row
-abbrev pub TookFront : Written → Written → Type 0
-TookFront start now = (header : Header) × (rows : List Row) × HasTakenFront start now header rows
+-- the header of the combination of the tables that were opened
+abbrev pub IsHeaderOfOpened : {S : Type 0} → (S → Seen) → Combining → ℕ → List S → Header → Type 0
+IsHeaderOfOpened {S} seen combining limit olds header = (news : List S) × (openings : List Opening)
+    × AreOpened seen limit olds news openings × HasHeaderOf combining (map header_of openings) header
+
+-- the writer took a beginning of a table text with such a header, up to some row
+abbrev pub TookFront : (Header → Type 0) → Written → Written → Type 0
+TookFront IsHeader start now =
+    (header : Header) × IsHeader header × ((rows : List Row) × HasTakenFront start now header rows)
 
 -- the tables that were opened have no combination, for this reason, and nothing was written
 pub record HaveNoCombination {S : Type 0} (seen : S → Seen) (combining : Combining) (limit : ℕ) (olds news : List S)
@@ -152,10 +162,12 @@ pub record HaveNoCombination {S : Type 0} (seen : S → Seen) (combining : Combi
   pub none : HasNoHeaderOf combining (map header_of openings) fault
   pub unwritten : now ≡ start
 
--- The count of the next word of the tables so far is above 2 ^ 62, or with it the sum of the counts. `Took` holds for
--- the rows that were taken from the tables.
-pub record CountsTooMuch (Took : List (List Row) → Type 0) (combining : Combining) (start now : Written) : Type 0 where
+-- The count of the next word of the tables so far is above 2 ^ 62, or with it the sum of the counts. `IsHeader` holds
+-- for the header of the combination, and `Took` for the rows that were taken from the tables.
+pub record CountsTooMuch (IsHeader : Header → Type 0) (Took : List (List Row) → Type 0) (combining : Combining)
+    (start now : Written) : Type 0 where
   pub header : Header
+  pub headed : IsHeader header
   pub rows : List Row
   pub front : HasTakenFront start now header rows
   pub tables : List (List Row)
@@ -164,8 +176,10 @@ pub record CountsTooMuch (Took : List (List Row) → Type 0) (combining : Combin
       × AreCombinedBelow bound (rule_of combining) tables (rows ++ row ∷ []) × (2 ^ 62 < total_of rows + row.count))
 
 -- the writer failed, after it took a beginning of the text of the rows of the tables so far, or of all tables
-pub record FailsToTake (Took : List (List Row) → Type 0) (combining : Combining) (start now : Written) : Type 0 where
+pub record FailsToTake (IsHeader : Header → Type 0) (Took : List (List Row) → Type 0) (combining : Combining)
+    (start now : Written) : Type 0 where
   pub header : Header
+  pub headed : IsHeader header
   pub rows : List Row
   pub tables : List (List Row)
   pub took : Took tables
@@ -178,12 +192,13 @@ pub record FailsToTake (Took : List (List Row) → Type 0) (combining : Combinin
 abbrev pub CombinesNot : {S : Type 0} → (S → Seen) → Combining → ℕ → List S → List S → Written → Written
     → CombineFault PlacedFault → Type 0
 CombinesNot seen combining limit olds news start now (Table fault) =
-    FailsOne seen limit olds news (Table fault) × ((now ≡ start) ⊎ TookFront start now)
+    FailsOne seen limit olds news (Table fault)
+    × ((now ≡ start) ⊎ TookFront (IsHeaderOfOpened seen combining limit olds) start now)
 CombinesNot seen combining limit olds news start now Unlike =
     HaveNoCombination seen combining limit olds news start now Unlike
 CombinesNot seen combining limit olds news start now TooLarge =
     HaveNoCombination seen combining limit olds news start now TooLarge
-    ⊎ CountsTooMuch (TookSoFar seen limit olds news) combining start now
+    ⊎ CountsTooMuch (IsHeaderOfOpened seen combining limit olds) (TookSoFar seen limit olds news) combining start now
 CombinesNot seen combining limit olds news start now Write =
-    FailsToTake (TookSoFar seen limit olds news) combining start now
+    FailsToTake (IsHeaderOfOpened seen combining limit olds) (TookSoFar seen limit olds news) combining start now
 CombinesNot seen combining limit olds news start now Memory = now ≡ start

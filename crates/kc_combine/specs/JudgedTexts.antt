@@ -36,6 +36,11 @@ abbrev pub FitsInto : Combining → ℕ → Type 0
 FitsInto Merge total = total ≤ 2 ^ 62
 FitsInto combining total = ⊤
 
+-- the tables have a header together, but their counts are too large
+abbrev pub IsHeaderButTooLarge : Combining → List TableSeen → Type 0
+IsHeaderButTooLarge combining tables = ((header : Header) × HasHeaderOf combining (map header_seen tables) header)
+    × (¬ FitsInto combining (total_of_all tables))
+
 -- the sources gave tables that can be combined, with this header
 pub record CanCombine {S : Type 0} (seen : S → Seen) (combining : Combining) (limit : ℕ) (olds news : List S)
     (header : Header) : Type 0 where
@@ -65,7 +70,7 @@ pub record CanNotCombine {S : Type 0} (seen : S → Seen) (combining : Combining
   pub tables : List TableSeen
   pub given : GiveTables limit (map seen olds) (map seen news) tables
   pub none : HasNoHeaderOf combining (map header_seen tables) fault
-      ⊎ ((fault ≡ TooLarge) × (¬ FitsInto combining (total_of_all tables)))
+      ⊎ ((fault ≡ TooLarge) × IsHeaderButTooLarge combining tables)
 
 -- Why tables can't be combined: one has a fault; or they don't match; or the sums of merged tables are too large; or
 -- memory was refused.

@@ -1,12 +1,16 @@
 -- Tables in memory that are combined, and the table text of the result.
 -- Source: our formats page ("Merging" and the commands over several tables).
 use Rattle.std.specs.Prelude.{◌≡◌, ◌⊎◌, List, [], ◌∷◌, ◌++◌, length, map, Ok, ⊤}
-use Rattle.kc_io.specs.Sinks.{Written, HasWritten}
+use Rattle.kc_io.specs.Sinks.{Written, HasBegun, HasWritten}
 use Rattle.kc_tally.specs.declared.row.Row.{Row}
+use Rattle.kc_report.specs.declared.header.Header.{Header}
+use Rattle.kc_report.specs.RowsWritten.{text_of}
 use Rattle.kc_report.specs.Table.{table_text}
 use Rattle.kc_combine.specs.Aheads.{HasTaken}
-use Rattle.kc_combine.specs.CombinedTexts.{CombinesTables, CountsTooMuch, FailsToTake, HasNoHeaderOf, header_seen}
-use Rattle.kc_combine.specs.JudgedTexts.{FitsInto, total_of_all}
+use Rattle.kc_combine.specs.Combined.{IsCombined}
+use Rattle.kc_combine.specs.CombinedTexts.{CombinesTables, CountsTooMuch, HasHeaderOf, HasNoHeaderOf, header_seen, rows_of_each}
+use Rattle.kc_combine.specs.Combinings.{rule_of}
+use Rattle.kc_combine.specs.JudgedTexts.{FitsInto, IsHeaderButTooLarge, total_of_all}
 use Rattle.kc_combine.specs.KeptTables.{HasGiven, HasGivenAll, KeptStand, whence_of_table}
 use Rattle.kc_combine.specs.MergedTables.{MergesAll, TableSeen}
 use Rattle.kc_combine.specs.declared.ahead.Ahead.{Ahead}
@@ -41,7 +45,7 @@ AreFronts tables fronts = ⊥
 abbrev pub HaveNoHeader : Combining → List TableSeen → CombineFault PlacedFault → Type 0
 HaveNoHeader combining tables Unlike = HasNoHeaderOf combining (map header_seen tables) Unlike
 HaveNoHeader combining tables TooLarge =
-    HasNoHeaderOf combining (map header_seen tables) TooLarge ⊎ (¬ FitsInto combining (total_of_all tables))
+    HasNoHeaderOf combining (map header_seen tables) TooLarge ⊎ IsHeaderButTooLarge combining tables
 HaveNoHeader combining tables Memory = ⊤
 HaveNoHeader combining tables fault = ⊥
 
@@ -50,14 +54,24 @@ abbrev pub IsNoMerge : Combining → Type 0
 IsNoMerge Merge = ⊥
 IsNoMerge combining = ⊤
 
+-- the writer failed, after it took a beginning of the table text of the combination of these tables
+pub record FailsToTakeText (combining : Combining) (tables : List TableSeen) (start now : Written) : Type 0 where
+  pub header : Header
+  pub headed : HasHeaderOf combining (map header_seen tables) header
+  pub fits : FitsInto combining (total_of_all tables)
+  pub rows : List Row
+  pub combined : IsCombined header.k (rule_of combining) (rows_of_each tables) rows
+  pub begun : HasBegun start now (text_of header rows)
+
 -- Why the table text of a combination was not written whole: the tables have no combination, and nothing was written;
 -- or a count, or the sum of the counts, is too large; or the writer failed; or memory was refused, and nothing was
 -- written.
 abbrev pub CombinesNoTables : Combining → List TableSeen → Written → Written → CombineFault PlacedFault → Type 0
 CombinesNoTables combining tables start now Unlike = (now ≡ start) × HaveNoHeader combining tables Unlike
 CombinesNoTables combining tables start now TooLarge = ((now ≡ start) × HaveNoHeader combining tables TooLarge)
-    ⊎ (IsNoMerge combining × CountsTooMuch (AreFronts tables) combining start now)
-CombinesNoTables combining tables start now Write = FailsToTake (AreFronts tables) combining start now
+    ⊎ (IsNoMerge combining
+    × CountsTooMuch (HasHeaderOf combining (map header_seen tables)) (AreFronts tables) combining start now)
+CombinesNoTables combining tables start now Write = FailsToTakeText combining tables start now
 CombinesNoTables combining tables start now Memory = now ≡ start
 CombinesNoTables combining tables start now (Table fault) = ⊥
 
@@ -66,3 +80,8 @@ abbrev pub WritesMerged : Type 0
 WritesMerged = (tables : List TableSeen) (start now : Written) (totals : Totals)
     → CombinesTables Merge tables start now totals → FitsInto Merge (total_of_all tables)
     → (merged : TableSeen) × MergesAll tables (Ok merged) × HasWritten start now (table_text merged.0 merged.1)
+
+-- if the writer fails, it took a beginning of that
+abbrev pub WritesMergedPart : Type 0
+WritesMergedPart = (tables : List TableSeen) (start now : Written) → FailsToTakeText Merge tables start now
+    → (merged : TableSeen) × MergesAll tables (Ok merged) × HasBegun start now (table_text merged.0 merged.1)

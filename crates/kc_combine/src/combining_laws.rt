@@ -4,7 +4,7 @@ ghost use Rattle.kc_combine.specs.Combined.{difference, difference_of_counts, fi
 ghost use Rattle.kc_combine.specs.Combined.{least_of, sum_of, within};
 ghost use Rattle.kc_combine.specs.Laws.{HasOneResult, HasResult, KeepsFirst, MakesRows, StaysWithin, SumsTwo};
 ghost use Rattle.kc_combine.specs.Laws.{TotalOfSum, TotalWithinFirst};
-ghost use Rattle.kc_combine.specs.LoadedTables.{WritesMerged};
+ghost use Rattle.kc_combine.specs.LoadedTables.{WritesMerged, WritesMergedPart};
 ghost use Rattle.kc_combine.specs.MergedTables.{AllCountsMatch, AllMergedText, MergesTwo};
 
 /// Tables have exactly one combination by each rule.
@@ -75,7 +75,9 @@ pub fn merged_texts()
     ensures text { AllMergedText }
 {}
 
-/// The table text that is written for merged tables is that of their merged table.
+/// The table text that is written for merged tables is that of their merged table. If the writer fails, it took a
+/// beginning of that.
 pub fn written_merge()
-    ensures { WritesMerged }
+    ensures whole { WritesMerged }
+    ensures part { WritesMergedPart }
 {}

@@ -121,7 +121,7 @@ returns-clause-fault g c =
     let put = c.put_back.ensures ∙ ap (map source_of) back in
     rw put (if_err _ _ c.write_combined-written.result
     (combines_not seen limit c.args.combining c.args.sources.now.items c.replace-left.result.items openings c.in_ok-header.header aheads afters
-    (g.W.Sink.seen c.args.writer.now) (g.W.Sink.seen c.write_combined-written.new.writer) opened joined same)
+    (g.W.Sink.seen c.args.writer.now) (g.W.Sink.seen c.write_combined-written.new.writer) opened joined headed same)
     (c.write_combined-written.ensures.fault start))
 
 pub returns-clause-long : goal.returns-clause-long

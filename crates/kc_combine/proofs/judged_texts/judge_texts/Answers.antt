@@ -49,8 +49,10 @@ returns-in-Ok-combined_header-clause-fault g c =
     let (tables, to, headers, total) = s.given in
     let seen = g.S.Source.seen in
     let given = give_all seen c.args.limit c.sources.i c.args.sources.now c.sources.sources tables to c.sources-test.false s.long in
-    can_not seen c.args.limit c.args.combining c.args.sources.now c.sources.sources tables c.sources.total given total c.with_total.result
-    c.with_total.ensures.fault
+    let headed = subst (λ headers. CombinesHeaders c.args.combining headers (Ok c.in-Ok-combined_header.header)) (c.deref.ensures.value ∙ headers)
+    c.in-Ok-combined_header.ensures in
+    can_not seen c.args.limit c.args.combining c.args.sources.now c.sources.sources tables c.in-Ok-combined_header.header c.sources.total
+    given headed total c.with_total.result c.with_total.ensures.fault
 
 pub returns-clause-fault : goal.returns-clause-fault
 returns-clause-fault g c =

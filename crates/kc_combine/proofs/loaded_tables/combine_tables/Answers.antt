@@ -36,5 +36,6 @@ returns-clause-fault g c =
     let start = subst (StandAtStart HasGiven HasGivenAll) (sym c.deref_mut.ensures.value) (begun_start tables aheads begun) in
     if_err _ _ c.write_combined.result
     (combines_no_tables c.args.combining tables c.in_ok-header.header aheads afters (g.W.Sink.seen c.args.writer.now)
-    (g.W.Sink.seen c.write_combined.new.writer) begun c.in_ok-header.ensures.few same)
+    (g.W.Sink.seen c.write_combined.new.writer) begun c.in_ok-header.ensures.header
+    c.in_ok-header.ensures.few same)
     (c.write_combined.ensures.fault start)
