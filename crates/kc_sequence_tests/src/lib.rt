@@ -1,13 +1,11 @@
-//! Tests of the counter that only contracts see, of the streams, of the readers of sequence files, and of words and
-//! their batches, as a caller sees them.
+//! Tests of the number of steps that only contracts see, of the streams, of the readers of sequence files, and of words
+//! and their batches, as a caller sees them.
 #![tactic(auto)]
 
 #[cfg(test)]
 mod assertions;
 #[cfg(test)]
 mod batches;
-#[cfg(test)]
-mod counters;
 #[cfg(test)]
 mod gzip_files;
 #[cfg(test)]
@@ -22,5 +20,7 @@ mod sequence_examples;
 mod sequence_fault_texts;
 #[cfg(test)]
 mod sequence_files;
+#[cfg(test)]
+mod steps;
 #[cfg(test)]
 mod words;

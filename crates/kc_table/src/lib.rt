@@ -32,7 +32,7 @@ mod tag;
 
 pub use counts::Counts;
 /// Counts the slots that `QuotientTable::find` reads. Only contracts see the number.
-pub use kc_lemmas::Counter as Steps;
+pub use kc_lemmas::Steps;
 pub use limited_counts::LimitedCounts;
 pub use plain_counts::PlainCounts;
 pub use quotient_table::QuotientTable;

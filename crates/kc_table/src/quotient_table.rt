@@ -15,7 +15,7 @@ use crate::reprobes::Reprobing;
 use crate::sizes::PART_BITS;
 use crate::slots::Slots;
 use crate::table_fault::TableFault;
-use kc_lemmas::Counter;
+use kc_lemmas::Steps;
 use std::alloc::{AllocError, Global};
 use std::marker::Model;
 
@@ -81,7 +81,7 @@ impl QuotientTable {
     /// The slot of the key. The key's places are read in order, up to the one that has it or is empty, so at most 63
     /// slots. It takes no memory.
     #[inline]
-    pub fn find(&self, key: u64, steps: &mut Counter) -> Option<u64>
+    pub fn find(&self, key: u64, steps: &mut Steps) -> Option<u64>
         requires { key < 2 ^ self.now.bits }
         ensures stored { IsSome result ↔ IsStored (counts_in self.now.slots) key }
         ensures slot { IfSome result (λ s. HoldsKey self.now.slots s key) }
@@ -100,7 +100,7 @@ impl QuotientTable {
 
     // The key's count, 0 if the key is not stored. The only tags that it reads are those of one find.
     #[inline(always)]
-    fn get_by_one_find(&self, key: u64, steps: &mut Counter) -> u64
+    fn get_by_one_find(&self, key: u64, steps: &mut Steps) -> u64
         requires { key < 2 ^ self.now.bits }
         ensures count { result ≡ count_at (counts_in self.now.slots) key }
         ensures one_find { IsSearchedBy self.now key (steps.new.count - steps.old.count) }
@@ -114,7 +114,7 @@ impl QuotientTable {
     // Counts the key at its place, which may be a free one, and returns the new count. None if all its places have
     // other keys. The only tags that it reads are those of one find.
     #[inline(always)]
-    fn count_by_one_find(&mut self, key: u64, steps: &mut Counter) -> Option<u64>
+    fn count_by_one_find(&mut self, key: u64, steps: &mut Steps) -> Option<u64>
         requires in_range { key < 2 ^ self.old.bits }
         requires room { count_at (counts_in self.old.slots) key < 2 ^ count_bits }
         ensures new_count { IfSome result (λ count. count ≡ count_at (counts_in self.old.slots) key + 1) }
@@ -200,7 +200,7 @@ impl Counts for QuotientTable {
         ensures smallest { (log : ℕ) → self.old.log ≤ log → log < self.new.log
             → MayBeTooSmall self.old.bits log (counts_in self.old.slots) key }
     {
-        match self.slots.reprobe(key, &mut Counter::zero()) {
+        match self.slots.reprobe(key, &mut Steps::zero()) {
             Reprobing::Found { .. } => Ok(()),
             Reprobing::Free { place, tag } => {
                 self.slots.slots.put(place, tag, 0);
@@ -237,7 +237,7 @@ impl Counts for QuotientTable {
         ensures smallest { (log : ℕ) → self.old.log ≤ log → log < self.new.log
             → MayBeTooSmall self.old.bits log (counts_in self.old.slots) key }
     {
-        match self.count_by_one_find(key, &mut Counter::zero()) {
+        match self.count_by_one_find(key, &mut Steps::zero()) {
             Some(count) => Ok(count),
             None => self.count_in_larger(key),
         }
@@ -254,7 +254,7 @@ impl Counts for QuotientTable {
         ensures same_log { self.new.log ≡ self.old.log }
         ensures same_max_log { self.new.max_log ≡ self.old.max_log }
     {
-        match self.find(key, &mut Counter::zero()) {
+        match self.find(key, &mut Steps::zero()) {
             Some(place) => self.slots.slots.remove_one(place as usize),
             None => unreachable!(),
         }
@@ -276,7 +276,7 @@ impl Counts for QuotientTable {
         ensures same_log { self.new.log ≡ self.old.log }
         ensures same_max_log { self.new.max_log ≡ self.old.max_log }
     {
-        match self.count_by_one_find(key, &mut Counter::zero()) {
+        match self.count_by_one_find(key, &mut Steps::zero()) {
             Some(_) => (),
             None => unreachable!(),
         }
@@ -284,7 +284,7 @@ impl Counts for QuotientTable {
 
     #[inline]
     fn get(&self, key: u64) -> u64 {
-        self.get_by_one_find(key, &mut Counter::zero())
+        self.get_by_one_find(key, &mut Steps::zero())
     }
 
     /// The part of the table with the key's home.

@@ -14,7 +14,7 @@ use crate::reprobes::Reprobing;
 use crate::sizes::{PLACES, REPROBE_BITS, TAG_STEP};
 use crate::table_fault::TableFault;
 use crate::tag::Tag;
-use kc_lemmas::Counter;
+use kc_lemmas::Steps;
 use std::alloc::{AllocError, Global};
 
 /// A table of 2^log slots for keys of so many bits.
@@ -48,7 +48,7 @@ impl Slots {
     /// Walks over the key's places up to the key itself or a free one. A slot is never emptied, so the key is not after
     /// a free place.
     #[inline(always)]
-    pub fn reprobe(&self, key: u64, steps: &mut Counter) -> Reprobing
+    pub fn reprobe(&self, key: u64, steps: &mut Steps) -> Reprobing
         requires { key < 2 ^ self.now.bits }
         ensures walked { IsReprobing self.now.log (slot_tags self.now) key (steps.new.count - steps.old.count) result }
         ensures room { HasRoom self.now result }
@@ -103,7 +103,7 @@ impl Slots {
         ensures taken { result ≡ true → key_counts self.new ≡ insert (key_counts self.old) key count }
         ensures out { result ≡ false → IsOut self.old.log (slot_tags self.old) key }
     {
-        match self.reprobe(key, &mut Counter::zero()) {
+        match self.reprobe(key, &mut Steps::zero()) {
             Reprobing::Free { place, tag } => {
                 self.slots.put(place, tag, count);
                 true

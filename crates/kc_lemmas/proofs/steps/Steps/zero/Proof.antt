@@ -24,11 +24,11 @@ use denote.Triple.Spec.{Meets, triple_of}
 use denote.Triple.Table.{entered}
 use denote.Triple.Walked.{says, Stays, walk_of, ends_at, walk_Meets}
 use Rattle.kc_lemmas.proofs.Walks.{none, none_made}
-use Rattle.kc_lemmas.specs.contracts.counter.Counter as Counter
-use Rattle.kc_lemmas.specs.contracts.counter.Counter.zero as F
-use Rattle.kc_lemmas.specs.contracts.counter.Counter.zero.Key.{name as #self}
-use Rattle.kc_lemmas.proofs.counter.Counter.zero.Statement as stated
-use Rattle.kc_lemmas.proofs.counter.Counter.zero.Code as code
+use Rattle.kc_lemmas.specs.contracts.steps.Steps as Steps
+use Rattle.kc_lemmas.specs.contracts.steps.Steps.zero as F
+use Rattle.kc_lemmas.specs.contracts.steps.Steps.zero.Key.{name as #self}
+use Rattle.kc_lemmas.proofs.steps.Steps.zero.Statement as stated
+use Rattle.kc_lemmas.proofs.steps.Steps.zero.Code as code
 
 abbrev function : Fn
 function = code.function
@@ -56,7 +56,7 @@ module _ {M : Type 1} {𝓤 : Ura M} (𝓛 : Logic 𝓤) (at_mem : Memory → SP
     walks =
         let a = z.0.3 in
         let vss = z.0.4 in
-        let made : (Counter.the_row).Denot = record { count = 0 } in
+        let made : (Steps.the_row).Denot = record { count = 0 } in
         qed 𝓛 ((raw toks ⊛ ‵ (owns (types_at ended.signature.params z.0.0) a vss)) ∷ raw ((held z.0.0 a).requires z.1) ∷ []) ∵
         keep ! (0 ∷ []) $ split ! $ move ! (1 ∷ []) $ drop ! $
         enter ! C Λ function [] Post $ alloc_all ! (λ l. pass_all ! refl tt $

@@ -26,11 +26,11 @@ use denote.Triple.Spec.{Meets, triple_of}
 use denote.Triple.Table.{entered}
 use denote.Triple.Walked.{says, Stays, stay_dropped, walk_of, ends_at, walk_Meets, Goes-dropped}
 use Rattle.kc_lemmas.proofs.Walks.{none, none_made}
-use Rattle.kc_lemmas.specs.contracts.counter.Counter as Counter
-use Rattle.kc_lemmas.specs.contracts.counter.Counter.and_one as F
-use Rattle.kc_lemmas.specs.contracts.counter.Counter.and_one.Key.{name as #self}
-use Rattle.kc_lemmas.proofs.counter.Counter.and_one.Statement as stated
-use Rattle.kc_lemmas.proofs.counter.Counter.and_one.Code as code
+use Rattle.kc_lemmas.specs.contracts.steps.Steps as Steps
+use Rattle.kc_lemmas.specs.contracts.steps.Steps.and_one as F
+use Rattle.kc_lemmas.specs.contracts.steps.Steps.and_one.Key.{name as #self}
+use Rattle.kc_lemmas.proofs.steps.Steps.and_one.Statement as stated
+use Rattle.kc_lemmas.proofs.steps.Steps.and_one.Code as code
 
 abbrev function : Fn
 function = code.function
@@ -59,7 +59,7 @@ module _ {M : Type 1} {𝓤 : Ura M} (𝓛 : Logic 𝓤) (at_mem : Memory → SP
         let a = z.0.3 in
         let vss = z.0.4 in
         let u : Val = vptr a.0.ref_ptr.0 a.0.ref_ptr.1 in
-        let made : (Counter.the_row).Denot = record { count = a.0.now.count + 1 } in
+        let made : (Steps.the_row).Denot = record { count = a.0.now.count + 1 } in
         qed 𝓛 ((raw toks ⊛ ‵ (owns (types_at ended.signature.params z.0.0) a vss)) ∷ raw ((held z.0.0 a).requires z.1) ∷ []) ∵
         keep ! (0 ∷ []) $ split ! $ move ! (1 ∷ []) $ fsplit ! $ fsplit ! $ feq_l ! (λ is₀. drop ! $ drop ! $
         regoal ! (λ (us : List Val). prop (WpFn 𝓤 H C Λ function (us ++ []) Post)) is₀ refl $
@@ -72,7 +72,7 @@ module _ {M : Type 1} {𝓤 : Ura M} (𝓛 : Logic 𝓤) (at_mem : Memory → SP
 
   meets : (𝓣 : Tables 𝓤 H) → Meets 𝓛 ended.signature (WpFn 𝓤 H 𝓣.C 𝓣.Λ function) (closing 𝓛 ended held)
   meets 𝓣 =
-      walk_Meets 𝓛 ended stayed (Goes-dropped 𝓛 1 (RefOf (0 ∷ []) tt (plain (λ _. Counter.the_row)) (λ _. tt)) yes (λ κs x f. refl), tt) held
+      walk_Meets 𝓛 ended stayed (Goes-dropped 𝓛 1 (RefOf (0 ∷ []) tt (plain (λ _. Steps.the_row)) (λ _. tt)) yes (λ κs x f. refl), tt) held
       (WpFn 𝓤 H 𝓣.C 𝓣.Λ function) (WpFn-mono 𝓤 H 𝓛.laws 𝓣 function) (walks 𝓣.C 𝓣.Λ)
 
 pub and_one_spec : {M : Type 1} → stated.statement M
