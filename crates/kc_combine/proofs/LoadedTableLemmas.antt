@@ -117,48 +117,48 @@ begins low bound top (row ∷ rows) (other ∷ others) is also same =
     (subst (λ m. RiseWithin (suc m) top others) (sym e) (RiseWithin-rest low top other others also))))
     (λ o. ⊎_elim (λ less. absurd (lacked less)) (λ more. absurd (added more)) o)
     (cases_order row.word other.word) where
-  later : RiseWithin (suc row.word) bound rows
-  later = RiseWithin-rest low bound row rows is
+      later : RiseWithin (suc row.word) bound rows
+      later = RiseWithin-rest low bound row rows is
 
-  after : RiseWithin (suc other.word) top others
-  after = RiseWithin-rest low top other others also
+      after : RiseWithin (suc other.word) top others
+      after = RiseWithin-rest low top other others also
 
-  below : row.word < bound
-  below = is.below 0 row (omega arith)
+      below : row.word < bound
+      below = is.below 0 row (omega arith)
 
-  -- the others lack the first word
-  lacked : row.word < other.word → ⊥
-  lacked less =
-      let here = count_of-here row rows row.word refl in
-      let equal = same row.word below in
-      let past = count_of-past other others row.word (λ e. omega (arith, e, less)) in
-      let none = count_of-low (suc other.word) others row.word after.rises (omega (arith, less)) in
-      let present = is.present 0 row (omega arith) in
-      omega (arith, here, equal, past, none, present)
+      -- the others lack the first word
+      lacked : row.word < other.word → ⊥
+      lacked less =
+          let here = count_of-here row rows row.word refl in
+          let equal = same row.word below in
+          let past = count_of-past other others row.word (λ e. omega (arith, e, less)) in
+          let none = count_of-low (suc other.word) others row.word after.rises (omega (arith, less)) in
+          let present = is.present 0 row (omega arith) in
+          omega (arith, here, equal, past, none, present)
 
-  -- they have one before it
-  added : other.word < row.word → ⊥
-  added less =
-      let here = count_of-here other others other.word refl in
-      let equal = same other.word (omega (arith, less, below)) in
-      let past = count_of-past row rows other.word (λ e. omega (arith, e, less)) in
-      let none = count_of-low (suc row.word) rows other.word later.rises (omega (arith, less)) in
-      let present = also.present 0 other (omega arith) in
-      omega (arith, here, equal, past, none, present)
+      -- they have one before it
+      added : other.word < row.word → ⊥
+      added less =
+          let here = count_of-here other others other.word refl in
+          let equal = same other.word (omega (arith, less, below)) in
+          let past = count_of-past row rows other.word (λ e. omega (arith, e, less)) in
+          let none = count_of-low (suc row.word) rows other.word later.rises (omega (arith, less)) in
+          let present = also.present 0 other (omega arith) in
+          omega (arith, here, equal, past, none, present)
 
-  alike : row.word ≡ other.word
-      → (((n : ℕ) → n < bound → count_of rows n ≡ count_of others n) → (rest : List Row) × (rows ++ rest ≡ others))
-      → (rest : List Row) × (row ∷ rows ++ rest ≡ other ∷ others)
-  alike e rest =
-      let count : row.count ≡ other.count = sym (count_of-here row rows row.word refl) ∙ same row.word below
-      ∙ count_of-here other others row.word (sym e) in
-      let tail = rest (λ n h. ⊎_elim
-      (λ low_. count_of-low (suc row.word) rows n later.rises low_
-      ∙ sym (count_of-low (suc other.word) others n after.rises (omega (arith, e, low_))))
-      (λ high. sym (count_of-past row rows n (λ f. omega (arith, f, high))) ∙ same n h
-      ∙ count_of-past other others n (λ f. omega (arith, e, f, high)))
-      (cases_lt n (suc row.word))) in
-      (tail.0, λ i. record { word = e i; count = count i } ∷ tail.1 i)
+      alike : row.word ≡ other.word
+          → (((n : ℕ) → n < bound → count_of rows n ≡ count_of others n) → (rest : List Row) × (rows ++ rest ≡ others))
+          → (rest : List Row) × (row ∷ rows ++ rest ≡ other ∷ others)
+      alike e rest =
+          let count : row.count ≡ other.count = sym (count_of-here row rows row.word refl) ∙ same row.word below
+          ∙ count_of-here other others row.word (sym e) in
+          let tail = rest (λ n h. ⊎_elim
+          (λ low_. count_of-low (suc row.word) rows n later.rises low_
+          ∙ sym (count_of-low (suc other.word) others n after.rises (omega (arith, e, low_))))
+          (λ high. sym (count_of-past row rows n (λ f. omega (arith, f, high))) ∙ same n h
+          ∙ count_of-past other others n (λ f. omega (arith, e, f, high)))
+          (cases_lt n (suc row.word))) in
+          (tail.0, λ i. record { word = e i; count = count i } ∷ tail.1 i)
 
 one_front : (stand : KeptStand) (head : Option Row) (rows : List Row) → HasTaken HasGiven HasGivenAll stand head rows
     → (rest : List Row) × (rows ++ rest ≡ stand.table.rows)
@@ -355,25 +355,25 @@ module _ {G : Ghosts KeptStand PlacedFault} where
       let front = begins 0 bound top rows whole.0 (ordered-RiseWithin bound rows walk.combined.ordered)
       (ordered-RiseWithin top whole.0 whole.1.ordered) as_whole in
       (front.0, whole.0, whole.1, front.1) where
-    top : ℕ
-    top = 4 ^ header.k
+        top : ℕ
+        top = 4 ^ header.k
 
-    rule : List ℕ → ℕ
-    rule = rule_of combining
+        rule : List ℕ → ℕ
+        rule = rule_of combining
 
-    whole : (whole : List Row) × IsCombined header.k rule (rows_of_each tables) whole
-    whole = has_result header.k rule (rows_of_each tables)
+        whole : (whole : List Row) × IsCombined header.k rule (rows_of_each tables) whole
+        whole = has_result header.k rule (rows_of_each tables)
 
-    as_whole : (n : ℕ) → n < bound → count_of rows n ≡ count_of whole.0 n
-    as_whole n less =
-        let taken_all = fronts tables aheads afters begun same taken walk.taken in
-        let counted = walk.combined.counts n less ∙ ap rule (taken_all.1 bound n walk.begin less) in
-        ⊎_elim
-        (λ (low : n < top). counted ∙ sym (whole.1.counts n low))
-        (λ not. let above : top ≤ n = omega (arith, not) in
-        let none = tables_absent top n (rows_of_each tables) above (in_order header tables taken_all.2 headed.1) in
-        counted ∙ ap rule none ∙ nothing_of combining (rows_of_each tables) ∙ sym (absent_above top n whole.0 above whole.1.ordered))
-        (cases_lt n top)
+        as_whole : (n : ℕ) → n < bound → count_of rows n ≡ count_of whole.0 n
+        as_whole n less =
+            let taken_all = fronts tables aheads afters begun same taken walk.taken in
+            let counted = walk.combined.counts n less ∙ ap rule (taken_all.1 bound n walk.begin less) in
+            ⊎_elim
+            (λ (low : n < top). counted ∙ sym (whole.1.counts n low))
+            (λ not. let above : top ≤ n = omega (arith, not) in
+            let none = tables_absent top n (rows_of_each tables) above (in_order header tables taken_all.2 headed.1) in
+            counted ∙ ap rule none ∙ nothing_of combining (rows_of_each tables) ∙ sym (absent_above top n whole.0 above whole.1.ordered))
+            (cases_lt n top)
 
   -- the writer failed
   not_taken : (combining : Combining) (tables : List TableSeen) (header : Header) (aheads afters : List (Ahead KeptStand PlacedFault G))

@@ -8,7 +8,8 @@ use Rattle.kc_report.specs.RowsWritten.{text_of}
 use Rattle.kc_report.specs.Table.{table_text}
 use Rattle.kc_combine.specs.Aheads.{HasTaken}
 use Rattle.kc_combine.specs.Combined.{IsCombined}
-use Rattle.kc_combine.specs.CombinedTexts.{CombinesTables, CountsTooMuch, HasHeaderOf, HasNoHeaderOf, header_seen, rows_of_each}
+use Rattle.kc_combine.specs.CombinedTexts.{CombinesTables, CountsTooMuch, HasHeaderOf, HasNoHeaderOf, header_seen}
+use Rattle.kc_combine.specs.CombinedTexts.{rows_of_each}
 use Rattle.kc_combine.specs.Combinings.{rule_of}
 use Rattle.kc_combine.specs.JudgedTexts.{FitsInto, IsHeaderButTooLarge, total_of_all}
 use Rattle.kc_combine.specs.KeptTables.{HasGiven, HasGivenAll, KeptStand, whence_of_table}

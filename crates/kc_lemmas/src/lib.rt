@@ -1,5 +1,5 @@
-//! What the crates above have in common: a number of steps that only contracts see, vectors with bounded capacity, items
-//! in buckets, and lemmas on lists in `proofs/`.
+//! What the crates above have in common: a number of steps that only contracts see, vectors with bounded capacity,
+//! items in buckets, and lemmas on lists in `proofs/`.
 #![tactic(auto)]
 
 mod buckets;

@@ -4,8 +4,8 @@ ghost use Rattle.std.specs.Borrow.{ftrue};
 
 use std::marker::Model;
 
-/// How many steps were done. The number exists only in proofs, so it takes no bytes and has no bound; in contracts it is
-/// `count`. A contract that is handed one has the exact step from `old` to `new`: then no body can reset it.
+/// How many steps were done. The number exists only in proofs, so it takes no bytes and has no bound; in contracts it
+/// is `count`. A contract that is handed one has the exact step from `old` to `new`: then no body can reset it.
 #[derive(Drop)]
 pub struct Steps {
     pub ghost count: { ℕ },

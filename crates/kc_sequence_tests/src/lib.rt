@@ -7,6 +7,8 @@ mod assertions;
 #[cfg(test)]
 mod batches;
 #[cfg(test)]
+mod ghost_steps;
+#[cfg(test)]
 mod gzip_files;
 #[cfg(test)]
 mod listed_words;
@@ -20,7 +22,5 @@ mod sequence_examples;
 mod sequence_fault_texts;
 #[cfg(test)]
 mod sequence_files;
-#[cfg(test)]
-mod steps;
 #[cfg(test)]
 mod words;
