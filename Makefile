@@ -6,7 +6,7 @@ ARCHIVE ?=
 # The crates of tests that tests/memory.sh runs with each growth refused.
 TESTS_OF_MEMORY = kc_count_tests kc_stripe_tests kc_run_tests
 
-.PHONY: demo build completions dist deb verify check edits bodies memory files gzip mistakes options program examples
+.PHONY: demo build completions dist deb verify check edits memory files gzip mistakes options program examples
 .PHONY: package documents workflow workflow-slurm test bench figures install clean help
 
 demo: ## shows the program at work within two minutes: its source with checks, not yet proved
@@ -34,9 +34,6 @@ edits: ## tries the edits that the prover must refuse, many at once: make edits 
 	@tests/judging.py
 	@tools/check_edits.py $(CRATE)
 	@tools/edits.py $(CRATE)
-
-bodies: ## tries the wrong bodies of must-fail one by one: make bodies CRATE=kc_word (none: all)
-	rt must-fail $(CRATE)
 
 memory: build ## refuses each growth of memory in turn
 	for crate in $(TESTS_OF_MEMORY); do (cd crates/$$crate && rt test) || exit 1; done

@@ -2,7 +2,7 @@
 """Tells what processor time each crate takes of the full test:
     tests/costs.py MARK
 It looks once a second at the checker's processes that have FULL_TEST=MARK in their environment, until it is sent SIGTERM, and then prints a row a
-crate with minutes of processor time: its proof, that of its tests, that with its wrong bodies in must-fail, and that with its other edits.
+crate with minutes of processor time: its proof, that of its tests, and that with its edits.
 What a process takes after the last look at it is not counted, a second at the most.
 """
 
@@ -13,7 +13,7 @@ import signal
 import sys
 import time
 
-KINDS = ("proof", "tests", "must-fail", "edits")
+KINDS = ("proof", "tests", "edits")
 TICKS = os.sysconf("SC_CLK_TCK")
 
 
@@ -24,8 +24,6 @@ def text_of(path):
 
 def kind_of(words, incremental):
     """Returns what a process checks: the folder that it keeps proofs in tells an edit, the command tells tests."""
-    if "/rt-edits-" in incremental:
-        return "must-fail"
     if "/kept-" in incremental:
         return "edits"
     return "tests" if os.path.basename(words[0]) == "rattle-test" else "proof"

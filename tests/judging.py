@@ -1,7 +1,7 @@
 #!/usr/bin/env python3
 """Reads recorded samples of what the toolchain prints and writes by tools/judging.py:
     tests/judging.py [--record]
-tests/judging/ has a small crate, edits of it, and what checks printed: of the crate as it is, of edits that are refused
+tests/judging/ has a small crate, edits of it, and what checks printed: of the crate without an edit, of edits that are refused
 beside some that aren't, and of one each where a proof names what is gone, the text can't be read or doesn't compile,
 the function isn't there, and the edit can't be placed. Where `rt` is of another version than the samples, they are made
 anew and read too, for half a minute, so that what differs is named before any edit is tried. With --record they replace
@@ -42,8 +42,8 @@ CHECKS = {
     "unread": {"add_six": UNREAD},
     "missing": {"add_nothing": "there is no function {}", "add_one": UNTOLD},
 }
-# The crates with which `rt ci` is done after each line of its recorded log: `plain` has no wrong bodies.
-DONE = [{"plain"}, {"plain"}, {"plain", "small"}, {"plain", "small", "later"}]
+# The crates with whose proofs `rt ci` is done after each line of its recorded log.
+DONE = [{"plain"}, {"plain", "small"}, {"plain", "small", "later"}]
 # The function without a body, which the checker doesn't name, and the one that an impl has of its trait.
 UNEQUAL = {"numbers::Numbered::number", "numbers::TicketNumberedU8::is_numbered"}
 # A line that names a file of the toolchain by its path, which differs from machine to machine. Nothing reads it.
@@ -79,7 +79,7 @@ def record(rt, to):
         crate = rt.rtlib.crates_below(room)[0]
         os.mkdir(kept)
         found, failed = edits.read_all(rt, crate)
-        for name in ("proved", *CHECKS):
+        for name in ("named", *CHECKS):
             group = [it for it in found if it.name.startswith(f"{name}-")]
             texts, functions = edits.made(folder, group), edits.names_of(group).values()
             ran = judging.checked(rt, crate, texts, functions, kept)
@@ -109,9 +109,9 @@ def wrong_functions(folder):
         crate = crate_in(room)
         found = [it for path in files_in(crate, "src/*.rt") for it in judging.functions_of(crate, path)]
         texts = {it.name: text_of(crate, it.path).split("\n")[it.head : it.last + 1] for it in found}
-    named = set(re.findall(r"(?m)^fn small::(\S+): proved$", text_of(folder, "proved.txt")))
+    named = set(re.findall(r"(?m)^fn small::(\S+): depends on a hole", text_of(folder, "named.txt")))
     unequal = named ^ texts.keys() ^ UNEQUAL
-    wrong = [f"proved.txt: {it}: {'not found' if it in named else 'not named so'}" for it in sorted(unequal)]
+    wrong = [f"named.txt: {it}: {'not found' if it in named else 'not named so'}" for it in sorted(unequal)]
     spans = {it: len(re.findall(r"\bfn ", " ".join(text))) for it, text in texts.items()}
     return wrong + [f"crate: {it}: its lines have {count} functions" for it, count in spans.items() if count != 1]
 
@@ -136,21 +136,17 @@ def wrong_files(folder):
 def wrong_log():
     """Returns after which lines of the recorded log of `rt ci` other crates are done than should be."""
     lines, wrong = text_of(FOLDER, "ci.txt").splitlines(True), []
-    with tempfile.TemporaryDirectory() as room:
-        crates = [SimpleNamespace(name=it, folder=f"{room}/{it}") for it in ("plain", "small", "later")]
-        for it in crates[1:]:
-            os.makedirs(f"{it.folder}/must-fail")
-        for at, wanted in enumerate(DONE, 1):
-            done = {it.name for it in crates if judging.is_tried(it, "".join(lines[:at]))}
-            if done != wanted:
-                wrong.append(f"ci.txt:{at}: done: {' '.join(sorted(done))}; wanted: {' '.join(sorted(wanted))}")
+    for at, wanted in enumerate(DONE, 1):
+        done = {it for it in ("plain", "small", "later") if judging.is_proved(it, "".join(lines[:at]))}
+        if done != wanted:
+            wrong.append(f"ci.txt:{at}: done: {' '.join(sorted(done))}; wanted: {' '.join(sorted(wanted))}")
     return wrong
 
 
 def lost_in(rt):
     """Returns what this `rt` names or says otherwise than tools/judging.py and the samples, without a check."""
     text = text_of(*os.path.split(rt.__file__))
-    words = [judging.TRIES, judging.ROOM, " passed, ", *judging.NAMES.split("|")]
+    words = [" passed, ", *judging.NAMES.split("|")]
     lost = [f"rt has no {it!r}" for it in words if it not in text]
     kept = judging.kept_of(SimpleNamespace(folder="."))[2:]
     if rt.rtlib.KEPT != ["--incremental", kept] or not {"src", "specs", "proofs"} <= {*rt.rtlib.PARTS}:

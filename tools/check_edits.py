@@ -1,9 +1,9 @@
 #!/usr/bin/env python3
 """Checks that each edit can be tried, without a proof:
     tools/check_edits.py [CRATE..]
-It reads each file of crates/NAME/edits and crates/NAME/must-fail as the tools that try it do: the old text occurs exactly
-once in the file, or in the function that the edit names, the function of each line `refused:` is in the crate, and what
-a new line calls exists. It prints each edit that can't be tried, and then the status is 1. It takes seconds; `make edits`
+It reads each file of crates/NAME/edits as the tool that tries it does: the old text occurs exactly once in the file, or
+in the function that the edit names, the function of each line `refused:` is in the crate, and what a new line calls
+exists. It prints each edit that can't be tried, and then the status is 1. It takes seconds; `make edits`
 tries the edits.
 """
 
@@ -61,20 +61,13 @@ def faults_of_edits(rt, crate, known):
     return {f"{edits.FOLDER}/{name}.edit": why for name, why in failed.items()}
 
 
-def faults_of_bodies(rt, crate):
-    """Returns for each file of must-fail/ that can't be tried its path and why."""
-    paths = judging.files_in(crate.folder, "must-fail/*.edit")
-    read = {it: rt.read_edit(f"{crate.folder}/{it}", crate.folder) for it in paths}
-    return {path: why for path, (_, why) in read.items() if why}
-
-
 def main(names):
     rt = kit.load()
     count = bad = 0
     known = called_in_all(rt)
     for crate in (it for it in kit.crates_of(rt) if not names or it.name in names):
-        count += len(edits.files_of(crate.folder)) + len(judging.files_in(crate.folder, "must-fail/*.edit"))
-        faults = faults_of_edits(rt, crate, known) | faults_of_bodies(rt, crate)
+        count += len(edits.files_of(crate.folder))
+        faults = faults_of_edits(rt, crate, known)
         for path, why in faults.items():
             print(f"{os.path.relpath(crate.folder, kit.TOP)}/{path}: {why}")
         bad += len(faults)

@@ -2,9 +2,9 @@
 """Tries the edits that the prover must refuse, many by one check:
     tools/edits.py [--kept FOLDER [--beside LOG]] [CRATE..]
 The crates are proved first, from what earlier runs kept. With --kept they are taken as the full test has proved and
-built them, and the folder has what checks of them kept, as far as it was saved. With --beside `rt ci` still runs and
-writes LOG: the edits of a crate are tried, at the lowest priority, as soon as that has tried the crate's wrong bodies,
-so that no processor is idle while it goes through the longest chain of crates.
+built them, and the folder has what checks of edits kept of them, if there were any. With --beside `rt ci` still runs
+and writes LOG: the edits of a crate are tried, at a low priority, as soon as that has proved the crate, so that no
+processor is idle while it goes through the longest chain of crates.
 
 An edit is a file crates/NAME/edits/WHAT_IS_WRONG.edit. Besides the lines of a must-fail edit of the toolchain (`file:`,
 `old:`, `new:`) it has a line `refused:` with the function that has to be refused by it, as the checker names it,
@@ -18,8 +18,9 @@ more than the function that it names, is tried alone. Each group is made in a co
 checked by one check, over a copy of what was kept of the crate's proof. Of each function that an edit names a goal or
 an answer of its own has to be open: that it calls what is not proved doesn't count, nor that the edited text can't be
 read, nor that the checker could not tell. What isn't refused so in its group is tried once more alone, which decides.
+Where nothing of a group is refused, one of its edits most likely can't be read, and first each half is tried.
 
-The last line is `N refused, M failed`.
+A line is printed for each crate once its edits were tried. The last line is `N refused, M failed`.
 """
 
 import collections
@@ -195,19 +196,22 @@ def read_all(rt, crate):
     return edits, failed
 
 
-def try_group(rt, crate, group, kept, is_first):
-    """Tries the edits of a group, and alone those that aren't refused. Returns for each why it failed, or None."""
+def try_group(rt, crate, group, kept, is_first=False):
+    """Tries the edits of a group, and once more in smaller groups those that aren't refused. Returns for each why it
+    failed, or None."""
     judged = judge(rt, crate, group, kept, is_first)
-    for edit in group:
-        if judged[edit.name] and len(group) > 1:
-            judged |= judge(rt, crate, [edit], kept)
+    failed = [it for it in group if judged[it.name]]
+    half = len(group) // 2
+    smaller = [group[:half], group[half:]] if len(failed) == len(group) else [[it] for it in failed]
+    for it in smaller if half else ():
+        judged |= try_group(rt, crate, it, kept)
     return judged
 
 
 def try_crates(rt, crates, kept):
     """Tries the edits of these crates, groups side by side, over what that folder has of them, or each over its own.
     Where the folder has nothing of a crate its smallest group comes first, and the others are tried over what that
-    check proved. Returns for each crate how many groups it has, and for each of its edits why it failed, or None."""
+    check proved. Returns for each crate its name, how many groups it has, and for each of its edits why it failed, or None."""
     tasks, tried = {}, {}
     for crate in (it for it in crates if files_of(it.folder)):
         edits, failed = read_all(rt, crate)
@@ -221,26 +225,25 @@ def try_crates(rt, crates, kept):
             tasks[crate.name, "edits", at] = waits, crate.count(rb"\n"), rt.need(crate), call
     for (name, _, _), judged in rt.in_lanes(tasks).items():
         tried[name][1].update(judged)
-    return tried
+    return [(name, *it) for name, it in tried.items()]
 
 
 def try_beside(rt, crates, kept, path):
-    """Tries the edits of these crates as `try_crates` does, each crate's as soon as `rt ci` is done with it. Until that
-    has ended half of the processors are used at the most."""
-    os.nice(19)
+    """Tries the edits of these crates as `try_crates` does, each crate's as soon as `rt ci` has proved it, and yields
+    the same. Until that has ended half of the processors are used at the most."""
+    os.nice(10)
     # (the most edits take longest, so they begin first)
-    left, running, tried = sorted(crates, key=lambda it: -len(files_of(it.folder))), set(), {}
+    left, running = sorted(crates, key=lambda it: -len(files_of(it.folder))), set()
     with ThreadPoolExecutor(rt.processors()) as pool:
         while left or running:
             log = text_of(*os.path.split(path))
             most = rt.processors() if judging.has_ended(log) else max(rt.processors() // 2, 1)
-            for crate in [it for it in left if judging.is_tried(it, log)][: most - len(running)]:
+            for crate in [it for it in left if judging.is_proved(it.name, log)][: most - len(running)]:
                 left.remove(crate)
                 running.add(pool.submit(try_crates, rt, [crate], kept))
             for it in wait(running, timeout=2, return_when=FIRST_COMPLETED).done if running else time.sleep(2) or ():
                 running.remove(it)
-                tried |= it.result()
-    return tried
+                yield from it.result()
 
 
 def are_proved(crates):
@@ -257,8 +260,7 @@ def main(words):
     if not kept and not are_proved(crates):
         return 1
     refused = failures = 0
-    tried = try_beside(rt, crates, kept, log) if log else try_crates(rt, crates, kept)
-    for name, (groups, failed) in tried.items():
+    for name, groups, failed in try_beside(rt, crates, kept, log) if log else try_crates(rt, crates, kept):
         for edit, why in failed.items():
             if why:
                 print(f"NOT REFUSED: {name}/{FOLDER}/{edit}: {why}", flush=True)

@@ -18,14 +18,14 @@ from dataclasses import dataclass
 PUB = r"(?:pub(?:\(\w+\))? )?"
 # What the checker says of a proof that names what is not there (an edit may have taken it away).
 NAMES = r"is not in scope|has no field|has no `|was not admitted|is no name"
-# What `rt ci` says before it tries the wrong bodies of a crate, and the folder in which it then keeps proofs.
-TRIES, ROOM = "trying its must-fail edits", "rt-edits-"
+# What `rt ci` says once it has proved a crate.
+PROVED = "rt: {} proved\n"
 
 
 @dataclass(frozen=True)
 class Function:
     """A function of a source file: how the checker names it, the first line of its attributes, the first and the last
-    line of its item, and whether it is a trait's or of an impl of one."""
+    line of its item, whether it is a trait's or of an impl of one, and whether it has a body."""
 
     name: str
     path: str
@@ -33,6 +33,7 @@ class Function:
     first: int
     last: int
     is_of_trait: bool
+    has_body: bool
 
 
 def text_of(folder, path):
@@ -106,7 +107,8 @@ def functions_of(folder, path):
             full = "::".join([*(owner if indent else module_of(path)), name])
             above = (it for it in range(at, 0, -1) if not lines[it - 1] or lines[it - 1].endswith(("{", "}")))
             last = end_of(lines, at, indent)
-            found.append(Function(full, path, next(above, 0), at, last, is_of_trait and bool(indent)))
+            has_body = lines[last].endswith("}")
+            found.append(Function(full, path, next(above, 0), at, last, is_of_trait and bool(indent), has_body))
     return found
 
 
@@ -150,6 +152,29 @@ def copied(crate, kept):
         yield room
 
 
+def stub_of(crate, function):
+    """Returns the text of a proof with a hole, which the checker takes for a proof of what the contract states."""
+    path, name = function.name.replace("::", "."), f"{function.name.rpartition('::')[2]}_spec"
+    uses = f"use Rattle.{crate.name}.proofs.{path}.Statement.{{statement}}"
+    return f"-- Taken by its contract. Assumes `Logic`.\n{uses}\n\npub {name} : {{M : Type 1}} → statement M\n{name} = ?\n"
+
+
+def put_stubs(crate, room, functions):
+    """Puts a proof with a hole in place of that of each function of this copy of the crate, but for these functions and
+    for those whose proofs others name, so that no check proves what isn't edited."""
+    for path in files_in(crate.folder, "src/**/*.rt"):
+        for it in functions_of(crate.folder, path):
+            if it.name in functions or not it.has_body or is_cited(crate.folder, it.name):
+                continue
+            folder = f"{room}/proofs/{it.name.replace('::', '/')}"
+            for proof in proofs_of(crate.folder, it.name):
+                if os.path.isfile(f"{room}/{proof}"):
+                    os.remove(f"{room}/{proof}")
+            os.makedirs(folder, exist_ok=True)
+            with open(f"{folder}/Proof.antt", "w", encoding="utf-8") as file:
+                file.write(stub_of(crate, it))
+
+
 def checked(rt, crate, texts, functions, kept):
     """Checks these functions of a copy of the crate, with these texts beside or in place of its own, over a folder."""
     with tempfile.TemporaryDirectory(prefix="rt-edit-") as room:
@@ -159,7 +184,8 @@ def checked(rt, crate, texts, functions, kept):
             os.makedirs(os.path.dirname(f"{room}/{path}"), exist_ok=True)
             with open(f"{room}/{path}", "w", encoding="utf-8") as file:
                 file.write(text)
-        flags = ["--jobs", "1", *(word for it in sorted(functions) for word in ("--only", it))]
+        put_stubs(crate, room, functions)
+        flags = ["--jobs", "1", "--allow-holes", *(word for it in sorted(functions) for word in ("--only", it))]
         words = [*rt.rtlib.guarded(), rt.rtlib.RATTLE, "check", *crate.words(flags, keeps=False), "--incremental", kept]
         how = {"stdin": subprocess.DEVNULL, "stdout": subprocess.PIPE, "stderr": subprocess.STDOUT, "errors": "replace"}
         return subprocess.run(words, cwd=room, check=False, **how)
@@ -199,19 +225,6 @@ def has_ended(log):
     return bool(re.search(r"(?m)^\d+ passed, \d+ failed$", log))
 
 
-def is_tried(crate, log):
-    """Returns whether `rt ci` is done with the crate: it has proved it and tried its wrong bodies, if there are any."""
-    if has_ended(log) or not os.path.isdir(f"{crate.folder}/must-fail"):
-        return has_ended(log) or f"rt: {crate.name} proved\n" in log
-    return f"rt: {crate.name}: {TRIES}" in log and not is_being_tried(crate.name)
-
-
-def is_being_tried(name):
-    """Returns whether `rt ci` checks the crate with a wrong body just now, by the command line of that check."""
-    for pid in filter(str.isdigit, os.listdir("/proc")):
-        # (a process may have ended since, or have words that are no text)
-        with suppress(OSError, UnicodeDecodeError):
-            words = text_of("/proc", f"{pid}/cmdline")
-            if f"--crate-name\0{name}\0" in words and f"/{ROOM}" in words:
-                return True
-    return False
+def is_proved(name, log):
+    """Returns whether `rt ci`, which writes this log, is done with the proof of the crate of that name."""
+    return has_ended(log) or PROVED.format(name) in log
