@@ -25,7 +25,8 @@ PROVED = "rt: {} proved\n"
 @dataclass(frozen=True)
 class Function:
     """A function of a source file: how the checker names it, the first line of its attributes, the first and the last
-    line of its item, whether it is a trait's or of an impl of one, and whether it has a body."""
+    line of its item, whether it is a trait's or of an impl of one, and whether a proof with a hole can be put in place
+    of its own: it has a body, doesn't call itself, and no type in its name is a tuple."""
 
     name: str
     path: str
@@ -33,7 +34,7 @@ class Function:
     first: int
     last: int
     is_of_trait: bool
-    has_body: bool
+    can_be_taken: bool
 
 
 @dataclass(frozen=True)
@@ -111,19 +112,21 @@ def end_of(lines, at, indent):
 @functools.cache
 def functions_of(folder, path):
     """Returns the functions of a source file."""
-    text, owner, is_of_trait, found = text_of(folder, path), [], False, []
+    text, owner, is_of_trait, has_tuple, found = text_of(folder, path), [], False, False, []
     lines = text.split("\n")
     items = rf"(?ms)^(?:({PUB}(?:impl|trait)\b.*?)[{{}};]$|( *){PUB}(?:const |final )?fn (\w+))"
     for item in re.finditer(items, text):
         (header, indent, name), at = item.groups(), text.count("\n", 0, item.start())
         if header:
             owner, is_of_trait = owner_of(" ".join(header.split()).rstrip("{} "), path, folder)
+            has_tuple = "<(" in header
         elif not found or at > found[-1].last:
             full = "::".join([*(owner if indent else module_of(path)), name])
             above = (it for it in range(at, 0, -1) if not lines[it - 1] or lines[it - 1].endswith(("{", "}")))
             last = end_of(lines, at, indent)
-            has_body = lines[last].endswith("}")
-            found.append(Function(full, path, next(above, 0), at, last, is_of_trait and bool(indent), has_body))
+            calls = re.search(rf"(?<![.:\w]){name}\(|\b(?:Self::|self\.){name}\(", "\n".join(lines[at + 1 : last + 1]))
+            can_be_taken = lines[last].endswith("}") and not calls and not (indent and has_tuple)
+            found.append(Function(full, path, next(above, 0), at, last, is_of_trait and bool(indent), can_be_taken))
     return found
 
 
@@ -179,7 +182,7 @@ def put_stubs(crate, room, functions):
     for those whose proofs others name, so that no check proves what isn't edited."""
     for path in files_in(crate.folder, "src/**/*.rt"):
         for it in functions_of(crate.folder, path):
-            if it.name in functions or not it.has_body or is_cited(crate.folder, it.name):
+            if it.name in functions or not it.can_be_taken or is_cited(crate.folder, it.name):
                 continue
             folder = f"{room}/proofs/{it.name.replace('::', '/')}"
             for proof in proofs_of(crate.folder, it.name):
