@@ -13,12 +13,8 @@ import signal
 import sys
 import time
 
-sys.path.insert(0, f"{os.path.dirname(os.path.dirname(os.path.abspath(__file__)))}/tools")
-sys.dont_write_bytecode = True
-
-import judging
-
 KINDS = ("proof", "tests", "edits")
+TICKS = os.sysconf("SC_CLK_TCK")
 
 
 def text_of(path):
@@ -33,6 +29,12 @@ def kind_of(words, incremental):
     return "tests" if os.path.basename(words[0]) == "rattle-test" else "proof"
 
 
+def seconds_of(process):
+    """Returns the processor time of a process so far. (The name in parentheses may have blanks.)"""
+    fields = text_of(f"{process}/stat").rpartition(")")[2].split()
+    return (int(fields[11]) + int(fields[12])) / TICKS
+
+
 def look(mark, taken):
     """Notes the processor time of each of the full test's checks, by process."""
     for pid in filter(str.isdigit, os.listdir("/proc")):
@@ -43,7 +45,7 @@ def look(mark, taken):
             if not named or f"FULL_TEST={mark}\0" not in text_of(f"{process}/environ"):
                 continue
             incremental = words[words.index("--incremental") + 1] if "--incremental" in words else ""
-            taken[pid, named[1], kind_of(words, incremental)] = judging.seconds_of(pid)
+            taken[pid, named[1], kind_of(words, incremental)] = seconds_of(process)
         except OSError:
             # the process has ended
             pass

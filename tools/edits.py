@@ -15,13 +15,12 @@ another, and the edits of a crate are put together into few groups. A second edi
 copy of the function, of another name and with a copy of its proof. A function of a trait can't be copied, nor one that
 another proof names, so there is one edit of it in a group. An edit that changes more than bodies of functions, or adds
 more than the function that it names, is tried alone. Each group is made in a copy of the crate, and its functions are
-checked by one check, over a copy of what was kept of the crate's proof. Of each function that an edit names a goal or
+checked by one check, which takes all others by their contracts, over a copy of what the crate's first one kept. Of each function that an edit names a goal or
 an answer of its own has to be open: that it calls what is not proved doesn't count, nor that the edited text can't be
 read, nor that the checker could not tell. What isn't refused so in its group is tried once more alone, which decides.
 Where nothing of a group is refused, one of its edits most likely can't be read, and first each half is tried.
 
-A line is printed for each crate once its edits were tried, and one before it for each edit that took long. The last
-line is `N refused, M failed`.
+A line is printed for each crate once its edits were tried. The last line is `N refused, M failed`.
 """
 
 import collections
@@ -40,8 +39,6 @@ from judging import text_of
 FOLDER = "edits"
 # How many edits a check has at the most: those of any crate today, since what a check loads is paid once then.
 MAX_GROUP = 96
-# From how many seconds on an edit is named as slow: most take a few.
-SLOW = 20
 
 
 @dataclass
@@ -63,14 +60,6 @@ class Edit:
         is_apart = not self.functions() & other.functions() and not self.lines.keys() & other.lines.keys()
         are_copies = self.copied and self.copied == other.copied
         return self.is_of_bodies and other.is_of_bodies and bool(is_apart or are_copies)
-
-
-@dataclass(frozen=True)
-class Verdict:
-    """What came of an edit: why it failed, or None where it is refused, and the seconds that its function took."""
-
-    why: str | None
-    seconds: float = 0.0
 
 
 class BadEdit(Exception):
@@ -183,12 +172,12 @@ def made(folder, group):
 
 def judge(rt, crate, group, kept, is_first=False):
     """Checks the crate with these edits over a copy of that folder or, where it is the first, over the folder itself,
-    which then has what is proved beside the edits. Returns for each the verdict."""
+    which then has what is proved beside the edits. Returns for each why it failed, or None where it is refused."""
     texts, names = made(crate.folder, group), names_of(group)
     with nullcontext(kept) if is_first else judging.copied(crate, kept) as room:
         ran = judging.checked(rt, crate, texts, names.values(), room)
     found = judging.judged(rt, crate.name, ran, texts, names.values())
-    return {edit: Verdict(found[it], ran.seconds.get(it, 0.0)) for edit, it in names.items()}
+    return {edit: found[function] for edit, function in names.items()}
 
 
 def files_of(folder):
@@ -208,10 +197,10 @@ def read_all(rt, crate):
 
 
 def try_group(rt, crate, group, kept, is_first=False):
-    """Tries the edits of a group, and once more in smaller groups those that aren't refused. Returns for each the
-    verdict."""
+    """Tries the edits of a group, and once more in smaller groups those that aren't refused. Returns for each why it
+    failed, or None."""
     judged = judge(rt, crate, group, kept, is_first)
-    failed = [it for it in group if judged[it.name].why]
+    failed = [it for it in group if judged[it.name]]
     half = len(group) // 2
     smaller = [group[:half], group[half:]] if len(failed) == len(group) else [[it] for it in failed]
     for it in smaller if half else ():
@@ -222,12 +211,12 @@ def try_group(rt, crate, group, kept, is_first=False):
 def try_crates(rt, crates, kept):
     """Tries the edits of these crates, groups side by side, over what that folder has of them, or each over its own.
     Where the folder has nothing of a crate its smallest group comes first, and the others are tried over what that
-    check proved. Returns for each crate its name, how many groups it has, and for each of its edits the verdict."""
+    check proved. Returns for each crate its name, how many groups it has, and for each of its edits why it failed, or None."""
     tasks, tried = {}, {}
     for crate in (it for it in crates if files_of(it.folder)):
         edits, failed = read_all(rt, crate)
         groups, folder = grouped(edits), kept or judging.kept_of(crate)
-        tried[crate.name] = len(groups), {name: Verdict(why) for name, why in failed.items()}
+        tried[crate.name] = len(groups), failed
         comes_first = not judging.has_proofs(crate, folder)
         for at, group in enumerate(groups):
             waits = [(crate.name, "edits", 0)] if comes_first and at > 0 else []
@@ -271,16 +260,13 @@ def main(words):
     if not kept and not are_proved(crates):
         return 1
     refused = failures = 0
-    for name, groups, verdicts in try_beside(rt, crates, kept, log) if log else try_crates(rt, crates, kept):
-        for edit, it in sorted(verdicts.items(), key=lambda it: -it[1].seconds):
-            if it.seconds >= SLOW:
-                print(f"{name}/{FOLDER}/{edit} took {it.seconds:.0f} seconds", flush=True)
-        for edit, it in verdicts.items():
-            if it.why:
-                print(f"NOT REFUSED: {name}/{FOLDER}/{edit}: {it.why}", flush=True)
-        bad = sum(bool(it.why) for it in verdicts.values())
-        refused, failures = refused + len(verdicts) - bad, failures + bad
-        print(f"edits of {name}: {len(verdicts) - bad} refused by {groups} checks, {bad} failed", flush=True)
+    for name, groups, failed in try_beside(rt, crates, kept, log) if log else try_crates(rt, crates, kept):
+        for edit, why in failed.items():
+            if why:
+                print(f"NOT REFUSED: {name}/{FOLDER}/{edit}: {why}", flush=True)
+        bad = sum(bool(it) for it in failed.values())
+        refused, failures = refused + len(failed) - bad, failures + bad
+        print(f"edits of {name}: {len(failed) - bad} refused by {groups} checks, {bad} failed", flush=True)
     print(f"{refused} refused, {failures} failed")
     return 1 if failures or not refused else 0
 

@@ -37,24 +37,9 @@ class Function:
     can_be_taken: bool
 
 
-@dataclass(frozen=True)
-class Checked:
-    """What a check came to: its status, what it printed, and seconds of processor time for each function."""
-
-    returncode: int
-    stdout: str
-    seconds: dict
-
-
 def text_of(folder, path):
     with open(f"{folder}/{path}", encoding="utf-8") as file:
         return file.read()
-
-
-def seconds_of(pid):
-    """Returns the processor time of a process so far. (The name in parentheses may have blanks.)"""
-    fields = text_of("/proc", f"{pid}/stat").rpartition(")")[2].split()
-    return (int(fields[11]) + int(fields[12])) / os.sysconf("SC_CLK_TCK")
 
 
 def files_in(folder, pattern):
@@ -203,23 +188,10 @@ def checked(rt, crate, texts, functions, kept):
             with open(f"{room}/{path}", "w", encoding="utf-8") as file:
                 file.write(text)
         put_stubs(crate, room, functions)
-        flags = ["--jobs", "1", "--progress", "--allow-holes", *(word for it in sorted(functions) for word in ("--only", it))]
+        flags = ["--jobs", "1", "--allow-holes", *(word for it in sorted(functions) for word in ("--only", it))]
         words = [*rt.rtlib.guarded(), rt.rtlib.RATTLE, "check", *crate.words(flags, keeps=False), "--incremental", kept]
         how = {"stdin": subprocess.DEVNULL, "stdout": subprocess.PIPE, "stderr": subprocess.STDOUT, "errors": "replace"}
-        with subprocess.Popen(words, cwd=room, **how) as check:
-            lines, seconds = listened(check, crate.name)
-        return Checked(check.returncode, "".join(lines), seconds)
-
-
-def listened(check, crate):
-    """Returns the lines that a check of the crate of that name prints, and how long it took for each function."""
-    lines, seconds, before = [], {}, 0.0
-    for line in check.stdout:
-        lines.append(line)
-        if told := re.match(rf"checked {crate}::(\S+), ", line):
-            now = seconds_of(check.pid)
-            seconds[told[1]], before = now - before, now
-    return lines, seconds
+        return subprocess.run(words, cwd=room, check=False, **how)
 
 
 def own_refusal(crate, function, said):
