@@ -15,9 +15,10 @@ another, and the edits of a crate are put together into few groups. A second edi
 copy of the function, of another name and with a copy of its proof. A function of a trait can't be copied, nor one that
 another proof names, so there is one edit of it in a group. An edit that changes more than bodies of functions, or adds
 more than the function that it names, is tried alone. Each group is made in a copy of the crate, and its functions are
-checked by one check, which takes all others by their contracts, over a copy of what the crate's first one kept. Of each function that an edit names a goal or
-an answer of its own has to be open: that it calls what is not proved doesn't count, nor that the edited text can't be
-read, nor that the checker could not tell. What isn't refused so in its group is tried once more alone, which decides.
+checked by one check, which takes all others by their contracts, over a copy of what the crate's first check kept. Of
+each function that an edit names a goal or an answer of its own has to be open: that it calls what is not proved doesn't
+count, nor that the edited text can't be read, nor that the checker could not tell. What isn't refused so in its group is
+tried once more alone, which decides.
 Where nothing of a group is refused, one of its edits most likely can't be read, and first each half is tried.
 
 A line is printed for each crate once its edits were tried. The last line is `N refused, M failed`.
