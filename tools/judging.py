@@ -196,11 +196,17 @@ def checked(rt, crate, texts, functions, kept):
 
 def own_refusal(crate, function, said):
     """Returns the line by which the checker refuses this function for a goal or an answer of its own, or None."""
-    told = re.search(rf"(?m)^fn {re.escape(f'{crate}::{function}')}: (not proved|no proof)(.*)$", said)
-    if not told or told[1] == "no proof":
-        return told[0] if told and "did not prove" in told[2] else None
+    name = re.escape(f"{crate}::{function}")
+    told = re.search(rf"(?m)^fn {name}: (not proved|no proof)(.*)$", said)
+    if not told:
+        return None
+    if "did not prove" in told[2]:
+        return told[0]
+    # (the goals that are open come before the function's own line, behind that of the one before)
+    goal = re.search(rf"(?m)^(note: src/\S+: it is not proved .*)\n(?:(?!fn ).*\n)*fn {name}: ", said)
     errors = re.findall(rf"(?m)^(?:\./)?proofs/{re.escape(function.replace('::', '/'))}/\S+: error: .*$", said)
-    return next((it for it in errors if not re.search(NAMES, it)), None)
+    answers = [it for it in errors if not re.search(NAMES, it)] if told[1] == "not proved" else []
+    return goal[1] if goal else next(iter(answers), None)
 
 
 def judged(rt, crate, ran, texts, functions):
