@@ -1,9 +1,9 @@
 #!/usr/bin/env python3
 """Reads recorded samples of what the toolchain prints and writes by tools/judging.py:
     tests/judging.py [--record]
-tests/judging/ has a small crate, edits of it, and what checks printed: of the crate without an edit, of edits that are refused
-beside some that aren't, and of one each where a proof names what is gone, the text can't be read or doesn't compile,
-the function isn't there, and the edit can't be placed. Where `rt` is of another version than the samples, they are made
+tests/judging/ has a small crate, edits of it, and what checks printed: of the crate without an edit, of edits that are
+refused beside some that aren't, and of one each where a proof names what is gone, where a goal is open besides, where
+the text can't be read or doesn't compile, the function isn't there, and the edit can't be placed. Where `rt` is of another version than the samples, they are made
 anew and read too, for half a minute, so that what differs is named before any edit is tried. With --record they replace
 those in tests/judging/. Where there is no `rt` only the recorded ones are read.
 """
@@ -38,6 +38,7 @@ CHECKS = {
         "Seats::at": REFUSED,
     },
     "names": {"Seats::at": OPEN},
+    "mixed": {"Seats::at": REFUSED},
     "uncompiled": {"add_one": OPEN},
     "unread": {"add_six": UNREAD},
     "missing": {"add_nothing": "there is no function {}", "add_one": UNTOLD},
