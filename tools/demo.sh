@@ -8,7 +8,7 @@ work=$(mktemp -d)
 trap 'rm -rf "$work"' EXIT
 cat <<'TEXT'
 What runs now is the source of kcount with its checks, built in a minute or two. It is not proved yet: `make build` proves every function and builds
-the fast program as bin/kcount, in a quarter to half an hour on four processors.
+the fast program as bin/kcount, in up to an hour on four processors.
 
 The words of length 4 in examples/reads.fa, with their counts (kcount count -m 4 --print dump --column < examples/reads.fa):
 TEXT
