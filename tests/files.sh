@@ -3,7 +3,7 @@
 # on a terminal, kills it while it writes, and compares what it prints, how it ends, and what is then in the file of its
 # output and beside it:
 #   tests/files.sh
-# No contract says what a file contains, so this is seen here alone. It needs bin/kcount.
+# No contract says what a file contains, so this is seen here alone. It needs bin/kcount and a C compiler.
 set -euo pipefail
 here=$(cd "$(dirname "$0")" && pwd)
 kcount=$here/../bin/kcount
@@ -68,6 +68,10 @@ wants 1 '' 'kcount: 2: bad base, source 2, line 2' old "${count[@]}" one.fa bad.
 wants 0 "$one" '' old dump -c one.kct
 wants 0 'CGT 1' '' old query one.kct cgt
 wants 0 "$both" '' old merge one.kct two.kct
+# (a pipe can be read only once, so tables are kept in memory then)
+wants 0 "$both" '' old merge <(printf '%s\n' "$table") two.kct
+wants 0 "$both" '' old merge two.kct <(printf '%s\n' "$table")
+wants 1 '' 'kcount: 42: bad row, line 2' old merge row.kct <(printf '%s\n' "$table")
 wants 0 $'KCT 2 3 s a 33 2\nACG 2\nCGT 2\nGTA 2\nEND 3 6' '' old merge one.kct one.kct
 wants 0 $'>r1\nACGTA' '' old "${select[@]}" one.kct
 wants 0 $'@r2\nCCC\n+\nIII' '' old "${select[@]}" two.kct one.fa two.fq
@@ -322,6 +326,29 @@ killed dump -c long.kct
 killed merge long.kct long.kct
 killed "${select[@]}" long.kct reads.fa
 rm long.fa reads.fa long.kct
+
+# A table that changes while it is read twice: what it is the second time is combined, or its fault is reported. The
+# output then has no more than a beginning, and a file that is named for it stays.
+cc -O2 -shared -fPIC -o "$work/later.so" "$here/open_later.c" -ldl
+changed() {
+    local status=$1 output=$2 errors=$3 left=$4 later=$5 got=0
+    shift 5
+    set_up
+    printf '%s\n' "$later" > two.kct.later
+    LD_PRELOAD="$work/later.so" "$kcount" "$@" > "$work/output" 2> "$work/errors" || got=$?
+    rm two.kct.later
+    same "its status" "$status" "$got" "$@, a table changed"
+    same "its output" "$output" "$(cat "$work/output")" "$@, a table changed"
+    same "its errors" "$errors" "$(cat "$work/errors")" "$@, a table changed"
+    same "the file out" "$left" "$(cat out)" "$@, a table changed"
+    ran=$((ran + 1))
+}
+changed 0 $'KCT 2 3 s a 33 2\nACG 1\nCGT 1\nGTA 1\nTTT 9\nEND 4 12' '' old \
+    $'KCT 2 3 s a 33 1\nTTT 9\nEND 1 9' merge one.kct two.kct
+changed 1 '' 'kcount: 42: bad row, line 2' old $'KCT 2 3 s a 33 1\nCCC\nEND 1 1' merge one.kct two.kct
+changed 1 '' 'kcount: 43: bad end' old $'KCT 2 3 s a 33 1\nCCC 1' merge -o out one.kct two.kct
+changed 1 '' 'kcount: 61: tables do not match' old $'KCT 2 3 c a 33 1\nAAA 1\nEND 1 1' intersect -o out one.kct two.kct
+changed 1 '' 'kcount: 41: bad header' old 'CCC 1' subtract one.kct two.kct
 
 # a pipe whose reader goes after one line, while far more is to be written than a pipe holds
 set +o pipefail

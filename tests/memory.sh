@@ -98,6 +98,28 @@ for asked in histo stats 'query TTTTTTTTTT'; do
 done
 echo "memory: a histogram, statistics and a query of a million rows take no more than of two"
 
+# Three tables of 100 MB, the same file each, are merged in the address space of three small ones and 16 MB. So are they
+# intersected and subtracted.
+{
+    echo 'KCT 1 31 s'
+    for first in A C G; do
+        sed -n "s/^\(..........\) 1$/$first\1ACGTACGTACGTACGTACGT 1/p" "$work/million.kct"
+    done
+    echo 'END 3145728 3145728'
+} > "$work/large.kct"
+[ "$(wc -c < "$work/large.kct")" -gt 100000000 ] || { echo "memory: the large table is too small"; exit 1; }
+for asked in 'merge 3145728 9437184' 'intersect 3145728 3145728' 'subtract 0 0'; do
+    read -r name distinct total <<< "$asked"
+    few=$(least_space "$name" "$work/two.kct" "$work/two.kct" "$work/two.kct")
+    (ulimit -v $(((few + 16) * 1024)) && exec "$kcount" "$name" "$work/large.kct" "$work/large.kct" "$work/large.kct") > "$work/got" \
+        && [ "$(tail -n 1 "$work/got")" = "END $distinct $total" ] \
+        || { echo "memory: $name of three tables of 100 MB takes more than $((few + 16)) MB, or ends with $(tail -n 1 "$work/got")"; exit 1; }
+done
+(ulimit -v $(((few + 16) * 1024)) && exec "$kcount" filter -L 2 "$work/large.kct") > "$work/got" \
+    && [ "$(cat "$work/got")" = $'KCT 1 31 s\nEND 0 0' ] || { echo "memory: a filter of 100 MB takes more than $((few + 16)) MB"; exit 1; }
+rm "$work/large.kct"
+echo "memory: three tables of 100 MB are merged, intersected and subtracted, and one is filtered, in 16 MB more than small ones"
+
 # one test of a crate, with its n-th growth refused
 refused_test() {
     REFUSE=$3 LD_PRELOAD="$work/refuse.so" "$here/../crates/$1/out/$1_tests" "$2" > "$work/said" 2>&1

@@ -220,8 +220,7 @@ called reads=long.fq results=sized "kcount=$program" k=15 memory_per_job=100 -- 
     'part_001.fq 17254 1725400 part_002.fq 17254 1725400 part_003.fq 5492 549200 ' ] \
     || fails "memory_per_job makes other parts: $(cat sized/parts.tsv)"
 for line in '1 files with some 40,000 reads and 4,000,000 bases: some 3 parts' 'a part has at most 1,725,352 bases' \
-    'room on disk for parts: 8.3 MB' 'room on disk for tables and sums: 132.8 MB; 65.4 MB of it for the result' \
-    'memory of the last merge: 111.9 MB'; do
+    'room on disk for parts: 8.3 MB' 'room on disk for tables and sums: 132.8 MB; 65.4 MB of it for the result'; do
     grep -qx "kcount: $line" <(sed '/^Building DAG of jobs/q' log) || fails "this isn't printed first: $line"
 done
 called reads=long.fq results=sized "kcount=$program" k=15 memory_per_job=100 -- --dry-run || fails "a dry run fails"

@@ -144,19 +144,9 @@ def memory_of_count(wildcards, attempt):
     return megabytes(THREAD * (config["threads"] - 1) + reads + KMER * different(bases), attempt)
 
 
-def rows_of(tables):
-    """At most so many rows have these tables: each is a k-mer, a blank, a digit or more, and the end of its line."""
-    return tables.size / (config["k"] + 3)
-
-
-def memory_of_merge(wildcards, input, attempt):
-    """9 bytes for each row of each table and of their sum."""
-    return megabytes(18 * rows_of(input), attempt)
-
-
-def memory_of_report(wildcards, input, attempt):
-    """9 bytes for each row."""
-    return megabytes(9 * rows_of(input), attempt)
+def memory_of_tables(wildcards, attempt):
+    """A merge, a histogram and statistics keep no rows of tables."""
+    return megabytes(0, attempt)
 
 
 def sample_of(path):
@@ -220,14 +210,12 @@ def plan():
     while not os.path.exists(folder):
         folder = os.path.dirname(folder)
     free = shutil.disk_usage(folder).free
-    merge = JOB + 9 * (2 * different(positions / 2) + whole)
     lines = [
         f"{len(FILES)} files with some {reads:,.0f} reads and {bases:,.0f} bases: some {parts} parts",
         f"a part has at most {MOST:,} {UNIT}",
         f"room on disk for parts: {text_of_size(cut)}",
         f"room on disk for tables and sums: {text_of_size(tables)}; {text_of_size(row * whole)} of it for the result",
         f"free on that disk: {text_of_size(free)}" + (", which is not enough" if cut + tables > free else ""),
-        f"memory of the last merge: {text_of_size(merge)}",
     ]
     return "\n".join(f"kcount: {line}" for line in lines)
 

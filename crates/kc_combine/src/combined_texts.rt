@@ -1,5 +1,5 @@
 //! Table texts that are combined, each read from its source.
-ghost use Rattle.std.specs.Prelude.{◌≡◌, ◌≤◌, [], All, IfErr, IfOk, length, map};
+ghost use Rattle.std.specs.Prelude.{◌≡◌, ◌^◌, ◌≤◌, [], All, IfErr, IfOk, length, map};
 ghost use Rattle.std.specs.Vec.{vec_capacity};
 ghost use Rattle.kc_report.specs.Table.{MaySay};
 ghost use Rattle.kc_combine.specs.CombinedTexts.{AreJoined, AreOpened, CombinesNot, CombinesTexts, FailsOne};
@@ -39,6 +39,7 @@ pub fn combine_texts<S: Source + Drop, W: Sink>(
         (map S.seen sources.new.items) (W.seen writer.old) (W.seen writer.new)) }
     ensures fault { IfErr result (CombinesNot S.seen combining limit sources.old.items sources.new.items
         (W.seen writer.old) (W.seen writer.new)) }
+    ensures most { IfOk result (λ totals. totals.total ≤ 2 ^ 62) }
     ensures long { length sources.new.items ≡ length sources.old.items }
 {
     let openings = open_each(alloc, sources, limit)?;

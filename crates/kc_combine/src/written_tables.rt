@@ -1,5 +1,5 @@
 //! The table text of a combination of tables, written row by row.
-ghost use Rattle.std.specs.Prelude.{◌≡◌, ◌<◌, List, ℕ, None, IfOk, IfErr, IfSome, length};
+ghost use Rattle.std.specs.Prelude.{◌≡◌, ◌^◌, ◌<◌, ◌≤◌, List, ℕ, None, IfOk, IfErr, IfSome, length};
 ghost use Rattle.kc_io.specs.Sinks.{Written};
 ghost use Rattle.kc_tally.specs.declared.row.Row.{Row};
 ghost use Rattle.kc_report.specs.declared.header.Header.{Header};
@@ -82,6 +82,7 @@ pub fn write_combined<R: GivesRows + Drop, C: Combines, W: Sink>(
         (C.rule combines.now) header.now (W.seen writer.old) (W.seen writer.new) aheads.new) }
     ensures fault { StandAtStart R.gave R.gave_all aheads.old → IfErr result (FailsToWrite R.gave R.gave_all R.fails
         (C.rule combines.now) header.now (W.seen writer.old) (W.seen writer.new) aheads.new) }
+    ensures most { IfOk result (λ totals. totals.total ≤ 2 ^ 62) }
     ensures same { whences_of R.whence aheads.new ≡ whences_of R.whence aheads.old }
 {
     let Ok(mut counts) = zero_counts(alloc, aheads.len()) else {
@@ -112,6 +113,7 @@ fn write_rows<R: GivesRows + Drop, C: Combines, W: Sink>(
         (C.rule combines.now) header.now (W.seen writer.old) (W.seen writer.new) aheads.new) }
     ensures fault { StandAtStart R.gave R.gave_all aheads.old → IfErr result (FailsToWrite R.gave R.gave_all R.fails
         (C.rule combines.now) header.now (W.seen writer.old) (W.seen writer.new) aheads.new) }
+    ensures most { IfOk result (λ totals. totals.total ≤ 2 ^ 62) }
     ensures same { whences_of R.whence aheads.new ≡ whences_of R.whence aheads.old }
 {
     let mut writing = TableWriting::begin(header);

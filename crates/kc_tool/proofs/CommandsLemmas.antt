@@ -2,7 +2,7 @@
 use Rattle.std.proofs.Common.{◌≡◌, ◌≤◌, ◌∙◌, ◌++◌, Bor, List, [], ◌∷◌, Option, Some, None, length, map, take, refl, sym, ap, ap₂, subst, inl, inr, Result, Ok, Err, ℕ, true, false, arith, ⊎_elim}
 use Rattle.std.proofs.Common.{append_assoc, append-nil}
 use Rattle.std.specs.Prelude.{◌==◌, ◌⊎◌, unwrap_or, All, Bool, codes, if◌then◌else◌, is_some}
-use Rattle.std.proofs.lemmas.List.{length-map, nil_from_length}
+use Rattle.std.proofs.lemmas.List.{length-append, length-map, nil_from_length}
 use Rattle.std.proofs.lemmas.Bool.Decides.{nat_tests}
 use Rattle.clap.specs.Words.{Row, Text, first_of}
 use Rattle.kc_io.specs.History.{no_history}
@@ -11,6 +11,7 @@ use Rattle.kc_io.specs.Sources.{Seen}
 use Rattle.kc_tool.specs.Tallies.{TableSeen}
 use Rattle.kc_tool.specs.FileEvents.{FileEvent, opened}
 use Rattle.kc_tool.specs.NamedSources.{names_of, seen_of}
+use Rattle.kc_combine.specs.declared.combining.Combining.{Combining}
 use Rattle.kc_command.specs.Arguments.{has_pairs, has_two_files, is_given, pairs_refusal, refusal_of_outputs, refusal_of_pairs, refusal_of_reads}
 use Rattle.kc_command.specs.declared.pair_options.PairsRefusal.TheVariants as refusal
 use Rattle.kc_select.specs.declared.sides.Sides.{Sides}
@@ -24,13 +25,13 @@ use Rattle.kc_tool.specs.declared.told.CountedWords.{CountedWords}
 use Rattle.kc_tool.specs.declared.told.Told.{Told}
 use Rattle.kc_tool.specs.declared.told.Told.TheVariants as says
 use Rattle.kc_tool.specs.Commands.{Answers, Does, HasFilesFor, IsTallyFor, behind_list, given_of, sources_in}
-use Rattle.kc_tool.specs.Commands.{AsksForTask, DoesApart, DoesTaskApart, DoesTaskInto, EndsSo, GoTogether, IsRefused, IsRefusedOption, KeepsInput, LacksOutput, LacksSecondFile, WritesTwo, behind_table, second_of}
-use Rattle.kc_tool.specs.Commands.{Surroundings, files_of, first_refused, stage_after, stage_before}
+use Rattle.kc_tool.specs.Commands.{AreFilesOf, AsksForTask, DoesApart, DoesTaskApart, DoesTaskInto, EndsSo, GoTogether, IsRefused, IsRefusedOption, KeepsInput, LacksOutput, LacksSecondFile, WritesTwo, behind_table, second_of}
+use Rattle.kc_tool.specs.Commands.{IsCombination, OpensOnce, Surroundings, files_of, first_refused, opened_by, stage_after, stage_before}
 use Rattle.kc_tool.specs.declared.named_sources.NamedSource.{NamedSource}
 use Rattle.kc_tool.specs.declared.tool_faults.ToolFault.{ToolFault}
 use Rattle.kc_tool.specs.declared.tool_faults.ToolFault.TheVariants.{Fastx, BadHeader, BadRow, BadEnd, TableTooLong, TableRead, Memory, BadOption, BadWord, Write, Run, OpenFailed, Unlike, TooLarge, BrokenTable, ShortTable, Unpaired}
 use Rattle.kc_tool.specs.declared.commands.Task.{Task}
-use Rattle.kc_tool.specs.declared.commands.Task.TheVariants.{Count, CountListed, Report, Query, Combine, Select, SelectPairs}
+use Rattle.kc_tool.specs.declared.commands.Task.TheVariants.{Count, CountListed, Report, Query, Combine, CombineFiles, Select, SelectPairs}
 use Rattle.kc_tool.specs.declared.commands.Verb.{Verb}
 use Rattle.kc_tool.specs.declared.commands.Verb.TheVariants as verb
 use Rattle.kc_tool.specs.Reports.{ReportsOn, report_of, report_text}
@@ -99,87 +100,98 @@ module _ (rows : List Row) where
         omega (arith, ap length are, counted)
     pick false two e = cc
 
-  -- A command has the files that its task wants.
-  has_files : (command : Verb) (task : Task) (names : List Text) → GoTogether command rows → AsksForTask command rows task
-      → names ≡ files_of command rows → HasFilesFor task names
-  has_files verb.Count (Count settings) names together asks are = tt
-  has_files verb.Count (CountListed settings) names together asks are =
+  -- A command has the files that its task wants, if it does not open them twice.
+  pub has_files : (command : Verb) (task : Task) (names : List Text) → GoTogether command rows → AsksForTask command rows task
+      → names ≡ files_of command rows → OpensOnce task → HasFilesFor task names
+  has_files verb.Count (Count settings) names together asks are once = tt
+  has_files verb.Count (CountListed settings) names together asks are once =
       has_list asks.1.0 (files_named rows) names (are ∙ ap (λ only. behind_list only (files_named rows)) asks.1.1)
-  has_files verb.Count (Report report) names together asks are = absurd asks
-  has_files verb.Count (Query words) names together asks are = absurd asks
-  has_files verb.Count (Combine combining) names together asks are = absurd asks
-  has_files verb.Count (Select rule tells) names together asks are = absurd asks
-  has_files verb.Count (SelectPairs pairing) names together asks are = absurd asks
-  has_files verb.Dump (Count settings) names together asks are = absurd asks
-  has_files verb.Dump (CountListed settings) names together asks are = absurd asks
-  has_files verb.Dump (Report report) names together asks are = one_of names (files_named rows) are
-  has_files verb.Dump (Query words) names together asks are = absurd asks
-  has_files verb.Dump (Combine combining) names together asks are = absurd asks
-  has_files verb.Dump (Select rule tells) names together asks are = absurd asks
-  has_files verb.Dump (SelectPairs pairing) names together asks are = absurd asks
-  has_files verb.Histo (Count settings) names together asks are = absurd asks
-  has_files verb.Histo (CountListed settings) names together asks are = absurd asks
-  has_files verb.Histo (Report report) names together asks are = one_of names (files_named rows) are
-  has_files verb.Histo (Query words) names together asks are = absurd asks
-  has_files verb.Histo (Combine combining) names together asks are = absurd asks
-  has_files verb.Histo (Select rule tells) names together asks are = absurd asks
-  has_files verb.Histo (SelectPairs pairing) names together asks are = absurd asks
-  has_files verb.Stats (Count settings) names together asks are = absurd asks
-  has_files verb.Stats (CountListed settings) names together asks are = absurd asks
-  has_files verb.Stats (Report report) names together asks are = one_of names (files_named rows) are
-  has_files verb.Stats (Query words) names together asks are = absurd asks
-  has_files verb.Stats (Combine combining) names together asks are = absurd asks
-  has_files verb.Stats (Select rule tells) names together asks are = absurd asks
-  has_files verb.Stats (SelectPairs pairing) names together asks are = absurd asks
-  has_files verb.Query (Count settings) names together asks are = absurd asks
-  has_files verb.Query (CountListed settings) names together asks are = absurd asks
-  has_files verb.Query (Report report) names together asks are = absurd asks
-  has_files verb.Query (Query words) names together asks are = one_of names (files_named rows) are
-  has_files verb.Query (Combine combining) names together asks are = absurd asks
-  has_files verb.Query (Select rule tells) names together asks are = absurd asks
-  has_files verb.Query (SelectPairs pairing) names together asks are = absurd asks
-  has_files verb.Merge (Count settings) names together asks are = absurd asks
-  has_files verb.Merge (CountListed settings) names together asks are = absurd asks
-  has_files verb.Merge (Report report) names together asks are = absurd asks
-  has_files verb.Merge (Query words) names together asks are = absurd asks
-  has_files verb.Merge (Combine combining) names together asks are = tt
-  has_files verb.Merge (Select rule tells) names together asks are = absurd asks
-  has_files verb.Merge (SelectPairs pairing) names together asks are = absurd asks
-  has_files verb.Intersect (Count settings) names together asks are = absurd asks
-  has_files verb.Intersect (CountListed settings) names together asks are = absurd asks
-  has_files verb.Intersect (Report report) names together asks are = absurd asks
-  has_files verb.Intersect (Query words) names together asks are = absurd asks
-  has_files verb.Intersect (Combine combining) names together asks are = tt
-  has_files verb.Intersect (Select rule tells) names together asks are = absurd asks
-  has_files verb.Intersect (SelectPairs pairing) names together asks are = absurd asks
-  has_files verb.Subtract (Count settings) names together asks are = absurd asks
-  has_files verb.Subtract (CountListed settings) names together asks are = absurd asks
-  has_files verb.Subtract (Report report) names together asks are = absurd asks
-  has_files verb.Subtract (Query words) names together asks are = absurd asks
-  has_files verb.Subtract (Combine combining) names together asks are = tt
-  has_files verb.Subtract (Select rule tells) names together asks are = absurd asks
-  has_files verb.Subtract (SelectPairs pairing) names together asks are = absurd asks
-  has_files verb.Filter (Count settings) names together asks are = absurd asks
-  has_files verb.Filter (CountListed settings) names together asks are = absurd asks
-  has_files verb.Filter (Report report) names together asks are = absurd asks
-  has_files verb.Filter (Query words) names together asks are = absurd asks
-  has_files verb.Filter (Combine combining) names together asks are = tt
-  has_files verb.Filter (Select rule tells) names together asks are = absurd asks
-  has_files verb.Filter (SelectPairs pairing) names together asks are = absurd asks
-  has_files verb.Select (Count settings) names together asks are = absurd asks
-  has_files verb.Select (CountListed settings) names together asks are = absurd asks
-  has_files verb.Select (Report report) names together asks are = absurd asks
-  has_files verb.Select (Query words) names together asks are = absurd asks
-  has_files verb.Select (Combine combining) names together asks are = absurd asks
-  has_files verb.Select (Select rule tells) names together asks are = has_list _ (files_named rows) names are
-  has_files verb.Select (SelectPairs pairing) names together asks are = two_files names asks.2.0 together are
-  has_files verb.Profile (Count settings) names together asks are = absurd asks
-  has_files verb.Profile (CountListed settings) names together asks are = absurd asks
-  has_files verb.Profile (Report report) names together asks are = absurd asks
-  has_files verb.Profile (Query words) names together asks are = absurd asks
-  has_files verb.Profile (Combine combining) names together asks are = absurd asks
-  has_files verb.Profile (Select rule tells) names together asks are = has_list _ (files_named rows) names are
-  has_files verb.Profile (SelectPairs pairing) names together asks are = absurd asks
+  has_files verb.Count (Report report) names together asks are once = absurd asks
+  has_files verb.Count (Query words) names together asks are once = absurd asks
+  has_files verb.Count (Combine combining) names together asks are once = absurd asks
+  has_files verb.Count (CombineFiles combining) names together asks are once = absurd asks
+  has_files verb.Count (Select rule tells) names together asks are once = absurd asks
+  has_files verb.Count (SelectPairs pairing) names together asks are once = absurd asks
+  has_files verb.Dump (Count settings) names together asks are once = absurd asks
+  has_files verb.Dump (CountListed settings) names together asks are once = absurd asks
+  has_files verb.Dump (Report report) names together asks are once = one_of names (files_named rows) are
+  has_files verb.Dump (Query words) names together asks are once = absurd asks
+  has_files verb.Dump (Combine combining) names together asks are once = absurd asks
+  has_files verb.Dump (CombineFiles combining) names together asks are once = absurd asks
+  has_files verb.Dump (Select rule tells) names together asks are once = absurd asks
+  has_files verb.Dump (SelectPairs pairing) names together asks are once = absurd asks
+  has_files verb.Histo (Count settings) names together asks are once = absurd asks
+  has_files verb.Histo (CountListed settings) names together asks are once = absurd asks
+  has_files verb.Histo (Report report) names together asks are once = one_of names (files_named rows) are
+  has_files verb.Histo (Query words) names together asks are once = absurd asks
+  has_files verb.Histo (Combine combining) names together asks are once = absurd asks
+  has_files verb.Histo (CombineFiles combining) names together asks are once = absurd asks
+  has_files verb.Histo (Select rule tells) names together asks are once = absurd asks
+  has_files verb.Histo (SelectPairs pairing) names together asks are once = absurd asks
+  has_files verb.Stats (Count settings) names together asks are once = absurd asks
+  has_files verb.Stats (CountListed settings) names together asks are once = absurd asks
+  has_files verb.Stats (Report report) names together asks are once = one_of names (files_named rows) are
+  has_files verb.Stats (Query words) names together asks are once = absurd asks
+  has_files verb.Stats (Combine combining) names together asks are once = absurd asks
+  has_files verb.Stats (CombineFiles combining) names together asks are once = absurd asks
+  has_files verb.Stats (Select rule tells) names together asks are once = absurd asks
+  has_files verb.Stats (SelectPairs pairing) names together asks are once = absurd asks
+  has_files verb.Query (Count settings) names together asks are once = absurd asks
+  has_files verb.Query (CountListed settings) names together asks are once = absurd asks
+  has_files verb.Query (Report report) names together asks are once = absurd asks
+  has_files verb.Query (Query words) names together asks are once = one_of names (files_named rows) are
+  has_files verb.Query (Combine combining) names together asks are once = absurd asks
+  has_files verb.Query (CombineFiles combining) names together asks are once = absurd asks
+  has_files verb.Query (Select rule tells) names together asks are once = absurd asks
+  has_files verb.Query (SelectPairs pairing) names together asks are once = absurd asks
+  has_files verb.Merge (Count settings) names together asks are once = absurd asks
+  has_files verb.Merge (CountListed settings) names together asks are once = absurd asks
+  has_files verb.Merge (Report report) names together asks are once = absurd asks
+  has_files verb.Merge (Query words) names together asks are once = absurd asks
+  has_files verb.Merge (Combine combining) names together asks are once = tt
+  has_files verb.Merge (CombineFiles combining) names together asks are once = absurd once
+  has_files verb.Merge (Select rule tells) names together asks are once = absurd asks
+  has_files verb.Merge (SelectPairs pairing) names together asks are once = absurd asks
+  has_files verb.Intersect (Count settings) names together asks are once = absurd asks
+  has_files verb.Intersect (CountListed settings) names together asks are once = absurd asks
+  has_files verb.Intersect (Report report) names together asks are once = absurd asks
+  has_files verb.Intersect (Query words) names together asks are once = absurd asks
+  has_files verb.Intersect (Combine combining) names together asks are once = tt
+  has_files verb.Intersect (CombineFiles combining) names together asks are once = absurd once
+  has_files verb.Intersect (Select rule tells) names together asks are once = absurd asks
+  has_files verb.Intersect (SelectPairs pairing) names together asks are once = absurd asks
+  has_files verb.Subtract (Count settings) names together asks are once = absurd asks
+  has_files verb.Subtract (CountListed settings) names together asks are once = absurd asks
+  has_files verb.Subtract (Report report) names together asks are once = absurd asks
+  has_files verb.Subtract (Query words) names together asks are once = absurd asks
+  has_files verb.Subtract (Combine combining) names together asks are once = tt
+  has_files verb.Subtract (CombineFiles combining) names together asks are once = absurd once
+  has_files verb.Subtract (Select rule tells) names together asks are once = absurd asks
+  has_files verb.Subtract (SelectPairs pairing) names together asks are once = absurd asks
+  has_files verb.Filter (Count settings) names together asks are once = absurd asks
+  has_files verb.Filter (CountListed settings) names together asks are once = absurd asks
+  has_files verb.Filter (Report report) names together asks are once = absurd asks
+  has_files verb.Filter (Query words) names together asks are once = absurd asks
+  has_files verb.Filter (Combine combining) names together asks are once = tt
+  has_files verb.Filter (CombineFiles combining) names together asks are once = absurd once
+  has_files verb.Filter (Select rule tells) names together asks are once = absurd asks
+  has_files verb.Filter (SelectPairs pairing) names together asks are once = absurd asks
+  has_files verb.Select (Count settings) names together asks are once = absurd asks
+  has_files verb.Select (CountListed settings) names together asks are once = absurd asks
+  has_files verb.Select (Report report) names together asks are once = absurd asks
+  has_files verb.Select (Query words) names together asks are once = absurd asks
+  has_files verb.Select (Combine combining) names together asks are once = absurd asks
+  has_files verb.Select (CombineFiles combining) names together asks are once = absurd asks
+  has_files verb.Select (Select rule tells) names together asks are once = has_list _ (files_named rows) names are
+  has_files verb.Select (SelectPairs pairing) names together asks are once = two_files names asks.2.0 together are
+  has_files verb.Profile (Count settings) names together asks are once = absurd asks
+  has_files verb.Profile (CountListed settings) names together asks are once = absurd asks
+  has_files verb.Profile (Report report) names together asks are once = absurd asks
+  has_files verb.Profile (Query words) names together asks are once = absurd asks
+  has_files verb.Profile (Combine combining) names together asks are once = absurd asks
+  has_files verb.Profile (CombineFiles combining) names together asks are once = absurd asks
+  has_files verb.Profile (Select rule tells) names together asks are once = has_list _ (files_named rows) names are
+  has_files verb.Profile (SelectPairs pairing) names together asks are once = absurd asks
 
 -- If a second output is named, pairs are asked for.
 no_reads : (rows : List Row) (other : Text) → has_pairs rows ≡ false → output2_of rows ≡ Some other → pairs_refusal rows ≡ None → ⊥
@@ -211,6 +223,7 @@ writes_two rows verb.Select (CountListed settings) other together asks named = a
 writes_two rows verb.Select (Report report) other together asks named = absurd asks
 writes_two rows verb.Select (Query words) other together asks named = absurd asks
 writes_two rows verb.Select (Combine combining) other together asks named = absurd asks
+writes_two rows verb.Select (CombineFiles combining) other together asks named = absurd asks
 writes_two rows verb.Select (Select rule tells) other together asks named = absurd (no_reads rows other asks.2 named together)
 writes_two rows verb.Select (SelectPairs pairing) other together asks named = tt
 
@@ -222,6 +235,7 @@ as_many (CountListed settings) files others same h = rw same at h
 as_many (Report report) files others same h = rw same at h
 as_many (Query words) files others same h = rw same at h
 as_many (Combine combining) files others same h = tt
+as_many (CombineFiles combining) files others same h = rw same at h
 as_many (Select rule tells) files others same h = rw same at h
 as_many (SelectPairs pairing) files others same h = rw same at h
 
@@ -234,14 +248,37 @@ as_named task names sources are h =
     let seen = length-map sources (λ (source : NamedSource Seen). source.source) in
     as_many task names (seen_of (λ seen. seen) sources) (omega (arith, ap length are, asked, named, seen)) h
 
--- The files that a command opens are such as its task wants.
-pub has_opened : (command : Verb) (rows : List Row) (task : Task) (names : List (Bor Text)) {asked mid : List FileEvent} {sources : List (NamedSource Seen)}
-    → GoTogether command rows → AsksForTask command rows task → map (λ name. name.now) names ≡ files_of command rows → OpensAll (map (λ name. name.now) names) asked mid sources
+-- A task that opens each file once opens those of its command.
+pub opens_them : (task : Task) (names : List Text) → OpensOnce task → names ≡ opened_by task names
+opens_them (Count settings) names once = refl
+opens_them (CountListed settings) names once = refl
+opens_them (Report report) names once = refl
+opens_them (Query words) names once = refl
+opens_them (Combine combining) names once = refl
+opens_them (CombineFiles combining) names once = absurd once
+opens_them (Select rule tells) names once = refl
+opens_them (SelectPairs pairing) names once = refl
+
+-- The files that were opened are such as the task wants.
+pub has_opened : (task : Task) (names : List (Bor Text)) {asked mid : List FileEvent} {sources : List (NamedSource Seen)}
+    → HasFilesFor task names → OpensAll (map (λ name. name.now) names) asked mid sources
     → HasFilesFor task (seen_of (λ seen. seen) sources)
-has_opened command rows task names {sources = sources} together asks named opens =
+has_opened task names {sources = sources} wanted opens =
     let many = length-map names (λ (name : Bor Text). name.now) in
-    as_named task names sources opens.named
-    (as_many task (map (λ (name : Bor Text). name.now) names) names many (has_files rows command task _ together asks named))
+    as_named task names sources opens.named wanted
+
+-- So are those of these names.
+pub wants_names : (task : Task) (names : List (Bor Text)) → HasFilesFor task (map (λ name. name.now) names) → HasFilesFor task names
+wants_names task names wanted = as_many task (map (λ (name : Bor Text). name.now) names) names (length-map names (λ (name : Bor Text). name.now)) wanted
+
+-- Files that are opened twice are such as a combination of files wants.
+pub wants_twice : (combining : Combining) (names : List (Bor Text)) (both : List (Bor Text)) → 1 ≤ length names
+    → map (λ name. name.now) both ≡ map (λ name. name.now) names ++ map (λ name. name.now) names → HasFilesFor (CombineFiles combining) both
+wants_twice combining names both some are =
+    let all = length-map both (λ (name : Bor Text). name.now) in
+    let once = length-map names (λ (name : Bor Text). name.now) in
+    let twice = length-append (map (λ (name : Bor Text). name.now) names) (map (λ (name : Bor Text). name.now) names) in
+    (length names, some, omega (arith, ap length are, all, once, twice))
 
 module _ (task : Task) (old new : Stage) where
   -- Nothing was written.
@@ -362,13 +399,14 @@ module _ (command : Verb) (rows : List Row) where
 
   -- a file is lacking, for one of the two outputs or for another use
   abbrev Lacking : Text → List FileEvent → Type 0
-  Lacking name asked = LacksFile (files_of command rows) (output_of rows) name asked ⊎ LacksSecondFile command rows name asked
+  Lacking name asked = ((names : List Text) × AreFilesOf command rows names × LacksFile names (output_of rows) name asked)
+      ⊎ LacksSecondFile command rows name asked
 
   told_so : (name : Text) (asked : List FileEvent) (fault : ToolFault) → first_refused command rows ≡ None → Lacking name asked
       → TellsName name fault → IsRefused command rows asked fault
   told_so name asked (OpenFailed told) lawful lacks tells = (lawful, subst (λ v. Lacking v asked) (sym tells) lacks)
-  told_so name asked Memory lawful (inl lacks) tells = inr (inl (name, lacks))
-  told_so name asked Memory lawful (inr lacks) tells = inr (inr (inr (inl (name, lacks))))
+  told_so name asked Memory lawful (inl lacks) tells = inr (inl (lacks.0, lacks.1, inl (name, lacks.2)))
+  told_so name asked Memory lawful (inr lacks) tells = inr (inr (inl (name, lacks)))
   told_so name asked (Fastx number fault) lawful lacks tells = absurd tells
   told_so name asked BadHeader lawful lacks tells = absurd tells
   told_so name asked (BadRow line) lawful lacks tells = absurd tells
@@ -385,40 +423,80 @@ module _ (command : Verb) (rows : List Row) where
   told_so name asked (ShortTable place) lawful lacks tells = absurd tells
   told_so name asked (Unpaired number) lawful lacks tells = absurd tells
 
-  -- There is no file for a text that is to go to the one of this name.
-  no_output : {name : Text} (tried : List FileEvent) (fault : ToolFault) → output_of rows ≡ Some name → first_refused command rows ≡ None
-      → HasNoOutput name tried fault → IsRefused command rows (tried_alone (files_of command rows) tried) fault
-  no_output {name} tried fault named lawful (inl tells) =
-      told_so name (tried_alone (files_of command rows) tried) fault lawful (inl (inr (named, (tried, tells.1, refl)))) tells.0
-  no_output {name} tried fault named lawful (inr lacks) =
-      subst (λ fault. IsRefused command rows (tried_alone (files_of command rows) tried) fault) (sym lacks.0) (inr (inr (inl (name, named, (tried, lacks.1, refl)))))
+  -- The files that a task opens are those of its command.
+  files_by : (command : Verb) (task : Task) → AsksForTask command rows task → AreFilesOf command rows (opened_by task (files_of command rows))
+  files_by command (Count settings) asks = inl refl
+  files_by command (CountListed settings) asks = inl refl
+  files_by command (Report report) asks = inl refl
+  files_by command (Query words) asks = inl refl
+  files_by command (Combine combining) asks = inl refl
+  files_by command (Select rule tells) asks = inl refl
+  files_by command (SelectPairs pairing) asks = inl refl
+  files_by verb.Count (CombineFiles combining) asks = absurd asks
+  files_by verb.Dump (CombineFiles combining) asks = absurd asks
+  files_by verb.Histo (CombineFiles combining) asks = absurd asks
+  files_by verb.Stats (CombineFiles combining) asks = absurd asks
+  files_by verb.Query (CombineFiles combining) asks = absurd asks
+  files_by verb.Merge (CombineFiles combining) asks = inr (tt, refl)
+  files_by verb.Intersect (CombineFiles combining) asks = inr (tt, refl)
+  files_by verb.Subtract (CombineFiles combining) asks = inr (tt, refl)
+  files_by verb.Filter (CombineFiles combining) asks = inr (tt, refl)
+  files_by verb.Select (CombineFiles combining) asks = absurd asks
+  files_by verb.Profile (CombineFiles combining) asks = absurd asks
 
-  -- There are no files for two texts that are to go to these.
-  not_both : {name other : Text} (tried : List FileEvent) (fault : ToolFault) → output_of rows ≡ Some name → second_of command rows ≡ Some other → first_refused command rows ≡ None
-      → HasNotBoth name other tried fault → IsRefused command rows (tried_alone (files_of command rows) tried) fault
-  not_both {name} {other} tried fault named second lawful (inl first) = no_output tried fault named lawful first
-  not_both {name} {other} tried fault named second lawful (inr (file, path, opening, none, closing, opens, why, gives, all)) = pick why where
-    pick : HasNoOutput other none fault → IsRefused command rows (tried_alone (files_of command rows) tried) fault
-    pick (inl tells) =
-        told_so other (tried_alone (files_of command rows) tried) fault lawful (inr (second, (name, named, (tried, (file, path, opening, none, closing, opens, tells.1, gives, all), refl)))) tells.0
-    pick (inr lacks) =
-        subst (λ fault. IsRefused command rows (tried_alone (files_of command rows) tried) fault) (sym lacks.0)
-        (inr (inr (inr (inr (other, second, (name, named, (tried, (file, path, opening, none, closing, opens, lacks.1, gives, all), refl)))))))
+  -- A command with two outputs opens its files once.
+  opens_once : (command : Verb) {other : Text} {names : List Text} → second_of command rows ≡ Some other → AreFilesOf command rows names
+      → names ≡ files_of command rows
+  opens_once command second (inl are) = are
+  opens_once verb.Merge second (inr both) = let none : ⊥ = cc in absurd none
+  opens_once verb.Intersect second (inr both) = let none : ⊥ = cc in absurd none
+  opens_once verb.Subtract second (inr both) = let none : ⊥ = cc in absurd none
+  opens_once verb.Filter second (inr both) = let none : ⊥ = cc in absurd none
+  opens_once verb.Count second (inr both) = absurd both.0
+  opens_once verb.Dump second (inr both) = absurd both.0
+  opens_once verb.Histo second (inr both) = absurd both.0
+  opens_once verb.Stats second (inr both) = absurd both.0
+  opens_once verb.Query second (inr both) = absurd both.0
+  opens_once verb.Select second (inr both) = absurd both.0
+  opens_once verb.Profile second (inr both) = absurd both.0
+
+  module _ (names : List Text) (are : AreFilesOf command rows names) where
+    -- There is no file for a text that is to go to the one of this name.
+    no_output : {name : Text} (tried : List FileEvent) (fault : ToolFault) → output_of rows ≡ Some name → first_refused command rows ≡ None
+        → HasNoOutput name tried fault → IsRefused command rows (tried_alone names tried) fault
+    no_output {name} tried fault named lawful (inl tells) =
+        told_so name (tried_alone names tried) fault lawful (inl (names, are, inr (named, (tried, tells.1, refl)))) tells.0
+    no_output {name} tried fault named lawful (inr lacks) =
+        subst (λ fault. IsRefused command rows (tried_alone names tried) fault) (sym lacks.0)
+        (inr (inl (names, are, inr (name, named, (tried, lacks.1, refl)))))
+
+    -- There are no files for two texts that are to go to these.
+    not_both : {name other : Text} (tried : List FileEvent) (fault : ToolFault) → output_of rows ≡ Some name → second_of command rows ≡ Some other → first_refused command rows ≡ None
+        → HasNotBoth name other tried fault → IsRefused command rows (tried_alone names tried) fault
+    not_both {name} {other} tried fault named second lawful (inl first) = no_output tried fault named lawful first
+    not_both {name} {other} tried fault named second lawful (inr (file, path, opening, none, closing, opens, why, gives, all)) =
+        subst (λ v. IsRefused command rows (tried_alone v tried) fault) (sym (opens_once command second are)) (pick why) where
+          pick : HasNoOutput other none fault → IsRefused command rows (tried_alone (files_of command rows) tried) fault
+          pick (inl tells) =
+              told_so other (tried_alone (files_of command rows) tried) fault lawful (inr (second, (name, named, (tried, (file, path, opening, none, closing, opens, tells.1, gives, all), refl)))) tells.0
+          pick (inr lacks) =
+              subst (λ fault. IsRefused command rows (tried_alone (files_of command rows) tried) fault) (sym lacks.0)
+              (inr (inr (inr (other, second, (name, named, (tried, (file, path, opening, none, closing, opens, lacks.1, gives, all), refl))))))
 
   -- A file can't be opened for reading.
   pub file_left : {old : Surroundings} {log : List FileEvent} {outcome : Result Told ToolFault} (fault : ToolFault) → outcome ≡ Err fault
-      → first_refused command rows ≡ None → FailsToOpen (files_of command rows) old.asked log fault
+      → first_refused command rows ≡ None → {names : List Text} → AreFilesOf command rows names → FailsToOpen names old.asked log fault
       → EndsSo command rows old (record { input = old.input; output = old.output; asked = log }) outcome
-  file_left {old} {log} fault is lawful (inl fails) = inr (record {
+  file_left {old} {log} fault is lawful {names} are (inl fails) = inr (record {
     fault = fault;
     is = is;
     unread = refl;
     unwritten = refl;
     asked = fails.1;
     log = fails.3;
-    refused = told_so fails.0 fails.1 fault lawful (inl (inl fails.2)) fails.4;
+    refused = told_so fails.0 fails.1 fault lawful (inl (names, are, inl fails.2)) fails.4;
   })
-  file_left {old} {log} fault is lawful (inr fails) = inr (record {
+  file_left {old} {log} fault is lawful {names} are (inr fails) = inr (record {
     fault = fault;
     is = is;
     unread = refl;
@@ -428,19 +506,19 @@ module _ (command : Verb) (rows : List Row) where
     refused = subst (λ fault. IsRefused command rows [] fault) (sym fails.0) (inl refl);
   })
 
-  opened_files : {asked mid : List FileEvent} {sources : List (NamedSource Seen)} → OpensAll (files_of command rows) asked mid sources
-      → (files : List FileRead) → AreOf sources files → AreOpened (files_of command rows) files
+  opened_files : {names : List Text} {asked mid : List FileEvent} {sources : List (NamedSource Seen)} → OpensAll names asked mid sources
+      → (files : List FileRead) → AreOf sources files → AreOpened names files
   opened_files opens files are = record {
     named = are.named ∙ opens.named;
     fresh = subst (All (λ (seen : Seen). seen.history ≡ no_history)) (sym are.before) opens.fresh;
   }
 
-  opening_log : {asked mid : List FileEvent} {sources : List (NamedSource Seen)} → OpensAll (files_of command rows) asked mid sources
+  opening_log : {names : List Text} {asked mid : List FileEvent} {sources : List (NamedSource Seen)} → OpensAll names asked mid sources
       → (files : List FileRead) → AreOf sources files → mid ≡ asked ++ openings files
-  opening_log {asked} opens files are = opens.log ∙ ap (λ v. asked ++ map opened v) (sym (are.named ∙ opens.named))
+  opening_log {names} {asked} opens files are = opens.log ∙ ap (λ v. asked ++ map opened v) (sym (are.named ∙ opens.named))
 
   module _ (task : Task) {sources : List (NamedSource Seen)} {outcome : Result Told ToolFault} (asks : AsksForTask command rows task)
-      {old : Surroundings} {mid : List FileEvent} (opens : OpensAll (files_of command rows) old.asked mid sources) where
+      {old : Surroundings} {mid : List FileEvent} (opens : OpensAll (opened_by task (files_of command rows)) old.asked mid sources) where
     -- The output has the text.
     pub to_output : {new : Surroundings} → output_of rows ≡ None → DoesTask sources task (record { input = old.input; output = old.output; asked = mid }) new outcome
         → EndsSo command rows old new outcome
@@ -500,11 +578,11 @@ module _ (command : Verb) (rows : List Row) where
 
     -- There is no file for its text, or there are none for its two texts.
     output_left : {Lacks : List FileEvent → ToolFault → Type 0} {input : Seen} {log : List FileEvent}
-        → ((tried : List FileEvent) (fault : ToolFault) → Lacks tried fault → IsRefused command rows (tried_alone (files_of command rows) tried) fault)
+        → ((tried : List FileEvent) (fault : ToolFault) → Lacks tried fault → IsRefused command rows (tried_alone (opened_by task (files_of command rows)) tried) fault)
         → LacksOutput Lacks sources old.input input mid log outcome
         → EndsSo command rows old (record { input = input; output = old.output; asked = log }) outcome
     output_left {Lacks} {input} {log} refuses lacks =
-        let names = files_of command rows in
+        let names = opened_by task (files_of command rows) in
         let back : given_back sources ≡ unread names = unread_back sources opens.fresh ∙ ap unread opens.named in
         inr (record {
           fault = lacks.fault;
@@ -524,7 +602,7 @@ module _ (command : Verb) (rows : List Row) where
         ⊎ LacksOutput (λ tried fault. HasNoOutput name tried fault) sources old.input input mid log outcome
         → EndsSo command rows old (record { input = input; output = old.output; asked = log }) outcome
     into_ends named second lawful (inl does) = to_file named second does
-    into_ends named second lawful (inr lacks) = output_left (λ tried fault why. no_output tried fault named lawful why) lacks
+    into_ends named second lawful (inr lacks) = output_left (λ tried fault why. no_output (opened_by task (files_of command rows)) (files_by command task asks) tried fault named lawful why) lacks
 
     -- The two files that are named for the outputs have it, or can't be created.
     apart_ends : {name other : Text} {input : Seen} {log : List FileEvent} → output_of rows ≡ Some name → second_of command rows ≡ Some other → first_refused command rows ≡ None
@@ -532,7 +610,7 @@ module _ (command : Verb) (rows : List Row) where
         ⊎ LacksOutput (λ tried fault. HasNotBoth name other tried fault) sources old.input input mid log outcome
         → EndsSo command rows old (record { input = input; output = old.output; asked = log }) outcome
     apart_ends named second lawful (inl does) = to_files named second does
-    apart_ends named second lawful (inr lacks) = output_left (λ tried fault why. not_both tried fault named second lawful why) lacks
+    apart_ends named second lawful (inr lacks) = output_left (λ tried fault why. not_both (opened_by task (files_of command rows)) (files_by command task asks) tried fault named second lawful why) lacks
 
     -- The output, or the files that are named for it, have the text.
     done_to : {new : Surroundings} (output second : Option Text) → output_of rows ≡ output → second_of command rows ≡ second → first_refused command rows ≡ None
@@ -548,12 +626,12 @@ module _ (command : Verb) (rows : List Row) where
 
   -- The task of a command was done, or not all its files could be opened.
   pub command_ends : {old new : Surroundings} (task : Task) {names : List Text} {output second : Option Text} {outcome : Result Told ToolFault}
-      → AsksForTask command rows task → first_refused command rows ≡ None → names ≡ files_of command rows → output_of rows ≡ output → second_of command rows ≡ second
+      → AsksForTask command rows task → first_refused command rows ≡ None → names ≡ opened_by task (files_of command rows) → output_of rows ≡ output → second_of command rows ≡ second
       → OpensAndDoes names output second task old new outcome → EndsSo command rows old new outcome
   command_ends {old} {new} task {names} {output} {second} {outcome} asks lawful named same more (inl does) =
       done_to task asks (subst (λ v. OpensAll v old.asked does.0 does.1) named does.2) output second same more lawful does.3
   command_ends {old} {new} task {names} {output} {second} {outcome} asks lawful named same more (inr fails) =
-      let left = file_left fails.0 fails.1 lawful (subst (λ v. FailsToOpen v old.asked new.asked fails.0) named fails.2) in
+      let left = file_left fails.0 fails.1 lawful (files_by command task asks) (subst (λ v. FailsToOpen v old.asked new.asked fails.0) named fails.2) in
       subst (λ v. EndsSo command rows old (record { input = v; output = new.output; asked = new.asked }) outcome) (sym fails.3)
       (subst (λ v. EndsSo command rows old (record { input = old.input; output = v; asked = new.asked }) outcome) (sym fails.4) left)
 

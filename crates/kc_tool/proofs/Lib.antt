@@ -17,3 +17,4 @@ pub mod SelectionsLemmas
 pub mod SourcesLemmas
 pub mod TablesLemmas
 pub mod TalliesLemmas
+pub mod TwoPassesLemmas

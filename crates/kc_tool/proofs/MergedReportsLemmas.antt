@@ -1,15 +1,15 @@
 -- Merged reports have the reads of both.
-use Rattle.std.proofs.Common.{◌≡◌, ℕ, zero, suc, ◌+◌, ◌-◌, ◌^◌, ◌≤◌, Bool, true, false, List, [], ◌∷◌, ◌++◌}
+use Rattle.std.proofs.Common.{◌≡◌, ℕ, zero, suc, ◌+◌, ◌-◌, ◌^◌, ◌<◌, ◌≤◌, Bool, true, false, List, [], ◌∷◌, ◌++◌}
 use Rattle.std.proofs.Common.{length, map, drop, append_assoc, get_or, eqb, refl, sym, ◌∙◌, ap, subst, arith}
 use Rattle.std.proofs.Common.{ap₂, eq-eqb, ne_eqb, ⊎_elim}
 use Rattle.kc_gzip.specs.declared.faults.GzipFault.{GzipFault}
 use Rattle.std.specs.Prelude.{All, MatchBool, Option, Some, None, IfSome, Ok, Result}
 use Rattle.std.specs.List.{concat}
 use Rattle.std.proofs.lemmas.Bool.{cases_eq, cases_lt, cond-false, cond-true}
-use Rattle.std.proofs.lemmas.List.{length-append, map-append}
+use Rattle.std.proofs.lemmas.List.{drop_at, length-append, map-append}
 use Rattle.std.proofs.lemmas.Grind.{flat_map-append}
 use Rattle.std.proofs.lemmas.List.Elements.{All-head, All-tail}
-use Rattle.std.proofs.lemmas.List.Sums.{sum_by-append}
+use Rattle.std.proofs.lemmas.List.Sums.{sum_by-append, sum_by-cons}
 use Rattle.kc_io.specs.Sources.{Seen}
 use Rattle.kc_gzip.specs.Following.{says}
 use Rattle.kc_gzip.specs.Intakes.{TakesAll}
@@ -25,17 +25,18 @@ use Rattle.kc_kmer.specs.Word.{text as text_of, form}
 use Rattle.kc_kmer.specs.Rule.{CountingRule}
 use Rattle.kc_kmer.specs.Occurrences.{words_in, words_of}
 use Rattle.kc_tally.specs.declared.row.Row.{Row}
-use Rattle.kc_tally.specs.Tally.{AreRows, IsTallyOf, TallySeen, count_of, total_of}
+use Rattle.kc_tally.specs.Tally.{AreOrderedRows, AreRows, IsTallyOf, TallySeen, count_of, total_of}
 use Rattle.kc_tally.specs.Sum.{IsSum}
 use Rattle.kc_tally.proofs.Tallies.{bounded_tally, one_value, summed_tally, tally-AreRows, tally_total}
 use Rattle.kc_report.specs.Table.{table_text}
-use Rattle.kc_io.specs.Sinks.{HasWritten}
+use Rattle.kc_io.specs.Sinks.{HasWritten, Written}
 use Rattle.kc_combine.specs.CombinedTexts.{CombinesTables, GiveTables}
 use Rattle.kc_combine.specs.JudgedTexts.{FitsInto, total_of_all}
 use Rattle.kc_combine.specs.declared.combining.Combining.TheVariants as combination
 use Rattle.kc_combine.specs.declared.written_tables.Totals.{Totals}
 use Rattle.kc_combine.proofs.LoadedTableLemmas.{writes_merged}
 use Rattle.kc_combine.proofs.MergedLemmas.{merges_two}
+use Rattle.kc_combine.proofs.ResultLemmas.{total_of_sum}
 use Rattle.kc_tool.specs.Commands.{most_table_bytes}
 use Rattle.kc_report.specs.TableReading.{IsTable, IsTableOf}
 use Rattle.kc_report.specs.Merging.{IsCountRead, counted_from, joined_origin, reads_together}
@@ -43,7 +44,7 @@ use Rattle.kc_report.proofs.MergingLemmas.{counts_match}
 use Rattle.kc_report.proofs.TableAnswers.{same_tally}
 use Rattle.kc_command.specs.declared.settings.Print.TheVariants as print
 use Rattle.kc_command.specs.Settings.{Settings, rule_of}
-use Rattle.kc_tool.specs.MergedReports.{ApartIsTogether, AreMerged, IsReportOn, MergeWritesMerged, MergedReports, ReportsFit}
+use Rattle.kc_tool.specs.MergedReports.{ApartIsTogether, AreMerged, IsReportOn, MergeWritesMerged, MergeWritesMergedFiles, MergedReports, ReportsFit}
 use Rattle.kc_tool.specs.MergedReports.{OneReport, ReportTellsReads, ReportsMatch, TellsReads}
 use Rattle.kc_tool.specs.Reports.{IsReportOf, printed_text}
 use Rattle.kc_tool.specs.Tallies.{GaveInputs, GivesList, TableSeen, TalliesSources, given}
@@ -413,30 +414,85 @@ apart_is_together settings are inputs more first second merged whole is_table on
 
 -- ---- the command
 
+-- The sum of two tables was written.
+wrote_two : (first second first_after second_after : Seen) (start now : Written) (tables : List TableSeen) (totals : Totals)
+    → GiveTables most_table_bytes (first ∷ second ∷ []) (first_after ∷ second_after ∷ []) tables
+    → CombinesTables combination.Merge tables start now totals
+    → ((table other : TableSeen) → tables ≡ table ∷ other ∷ [] → FitsInto combination.Merge (total_of_all tables))
+    → (one other text : List ℕ) × TakesAll first first_after most_table_bytes one
+    × TakesAll second second_after most_table_bytes other × AreMerged one other text × HasWritten start now text
+wrote_two first second first_after second_after start now [] totals given made fits = absurd given
+wrote_two first second first_after second_after start now (table ∷ []) totals given made fits = absurd given.1
+wrote_two first second first_after second_after start now (table ∷ other ∷ more ∷ tables) totals given made fits = absurd given.1.1
+wrote_two first second first_after second_after start now (table ∷ other ∷ []) totals given made fits =
+    let merged = writes_merged (table ∷ other ∷ []) start now totals made (fits table other refl) in (
+      given.0.bytes,
+      given.1.0.bytes,
+      table_text merged.0.0 merged.0.1,
+      given.0.taken,
+      given.1.0.taken,
+      record {
+        table = table;
+        other = other;
+        merged = merged.0;
+        told = given.0.has_table;
+        other_told = given.1.0.has_table;
+        merges = (merges_two table other (Ok merged.0)).0 merged.1;
+        is_text = refl;
+      },
+      merged.2,
+    )
+
 pub merge_writes : MergeWritesMerged
-merge_writes first second first_after second_after start now told is = two is.0 is.1 is.2 is.3.0 is.3.1 where
-  two : (tables : List TableSeen) → GiveTables most_table_bytes (first ∷ second ∷ []) (first_after ∷ second_after ∷ []) tables
-      → FitsInto combination.Merge (total_of_all tables) → (totals : Totals) → CombinesTables combination.Merge tables start now totals
-      → (one other text : List ℕ) × TakesAll first first_after most_table_bytes one
-      × TakesAll second second_after most_table_bytes other × AreMerged one other text × HasWritten start now text
-  two [] given fits totals made = absurd given
-  two (table ∷ []) given fits totals made = absurd given.1
-  two (table ∷ other ∷ more ∷ tables) given fits totals made = absurd given.1.1
-  two (table ∷ other ∷ []) given fits totals made =
-      let merged = writes_merged (table ∷ other ∷ []) start now totals made fits in (
-        given.0.bytes,
-        given.1.0.bytes,
-        table_text merged.0.0 merged.0.1,
-        given.0.taken,
-        given.1.0.taken,
-        record {
-          table = table;
-          other = other;
-          merged = merged.0;
-          told = given.0.has_table;
-          other_told = given.1.0.has_table;
-          merges = (merges_two table other (Ok merged.0)).0 merged.1;
-          is_text = refl;
-        },
-        merged.2,
-      )
+merge_writes first second first_after second_after start now told is =
+    wrote_two first second first_after second_after start now is.0 is.3.0 is.1 is.3.1 (λ table other two. is.2)
+
+-- The counts of two tables whose sum was written are together at most 2 ^ 62.
+fits_two : (first second first_after second_after : Seen) (start now : Written) (tables : List TableSeen) (totals : Totals)
+    → GiveTables most_table_bytes (first ∷ second ∷ []) (first_after ∷ second_after ∷ []) tables
+    → CombinesTables combination.Merge tables start now totals → totals.total ≤ 2 ^ 62
+    → (table other : TableSeen) → tables ≡ table ∷ other ∷ [] → FitsInto combination.Merge (total_of_all tables)
+fits_two first second first_after second_after start now tables totals given made most table other two =
+    subst (λ tables. FitsInto combination.Merge (total_of_all tables)) (sym two) fits where
+      gave : GiveTables most_table_bytes (first ∷ second ∷ []) (first_after ∷ second_after ∷ []) (table ∷ other ∷ [])
+      gave = subst (GiveTables most_table_bytes (first ∷ second ∷ []) (first_after ∷ second_after ∷ [])) two given
+
+      combines : CombinesTables combination.Merge (table ∷ other ∷ []) start now totals
+      combines = subst (λ tables. CombinesTables combination.Merge tables start now totals) two made
+
+      words : ℕ
+      words = 4 ^ combines.header.k
+
+      ordered : (i : ℕ) (d : List Row) → i < 2 → AreOrderedRows words (get_or (table.0.rows ∷ other.0.rows ∷ []) i d)
+      ordered zero d h = subst (λ k. AreOrderedRows (4 ^ k) table.0.rows)
+          (sym (combines.headed.1 0 combines.header (omega arith)).k) gave.0.has_table.lawful.rows.ordered
+      ordered (suc zero) d h = subst (λ k. AreOrderedRows (4 ^ k) other.0.rows)
+          (sym (combines.headed.1 1 combines.header (omega arith)).k) gave.1.0.has_table.lawful.rows.ordered
+      ordered (suc (suc i)) d h = let none : ⊥ = omega (arith, h) in absurd none
+
+      fits : FitsInto combination.Merge (total_of_all (table ∷ other ∷ []))
+      fits =
+          let total = total_of_sum combines.header.k (table.0.rows ∷ other.0.rows ∷ []) combines.rows ordered combines.combined in
+          let is = combines.total in
+          let all = sum_by-cons (λ (table : TableSeen). total_of table.0.rows) table (other ∷ []) in
+          let last = sum_by-cons (λ (table : TableSeen). total_of table.0.rows) other [] in
+          let rows = sum_by-cons total_of table.0.rows (other.0.rows ∷ []) in
+          let last_rows = sum_by-cons total_of other.0.rows [] in
+          omega (arith, total, is, most, all, last, rows, last_rows)
+
+pub merge_writes_files : MergeWritesMergedFiles
+merge_writes_files one other first second one_after other_after first_after second_after start now told is =
+    let files = one ∷ other ∷ first ∷ second ∷ [] in
+    let files_after = one_after ∷ other_after ∷ first_after ∷ second_after ∷ [] in
+    let sum = ap length is.are ∙ length-append is.first is.second in
+    let sum_after = ap length is.are_after ∙ length-append is.first_after is.second_after in
+    let two : length is.first ≡ 2 = omega (arith, sum, is.halves) in
+    let two_after : length is.first_after ≡ 2 = omega (arith, sum_after, is.halves_after) in
+    let split : is.second ≡ first ∷ second ∷ [] = sym (drop_at is.first is.second 2 two) ∙ ap (drop 2) (sym is.are) in
+    let split_after : is.second_after ≡ first_after ∷ second_after ∷ [] =
+    sym (drop_at is.first_after is.second_after 2 two_after) ∙ ap (drop 2) (sym is.are_after) in
+    let texts = is.done.1.1 in
+    let given = subst (λ olds. GiveTables most_table_bytes olds (first_after ∷ second_after ∷ []) texts.tables) split
+    (subst (λ news. GiveTables most_table_bytes is.second news texts.tables) split_after texts.given) in
+    wrote_two first second first_after second_after start now texts.tables is.done.1.0 given texts.combines
+    (fits_two first second first_after second_after start now texts.tables is.done.1.0 given texts.combines is.done.1.2)

@@ -1,21 +1,22 @@
 -- The effect of a command: its task, its sources, and what is written.
 -- Source: our manual page and our formats page.
-use Rattle.std.specs.Prelude.{◌≡◌, ◌⊎◌, ◌^◌, ◌≤◌, ℕ, Bool, true, false, List, [], ◌∷◌, ◌++◌, Option, Some, None, All}
-use Rattle.std.specs.Prelude.{map, length, take, drop}
+use Rattle.std.specs.Prelude.{◌≡◌, ◌⊎◌, ◌+◌, ◌^◌, ◌≤◌, ℕ, Bool, true, false, List, [], ◌∷◌, ◌++◌, Option, Some, None}
+use Rattle.std.specs.Prelude.{All, map, length, take, drop}
 use Rattle.std.specs.Prelude.{Result, Ok, Err, if◌then◌else◌, codes, string_bytes, unwrap_or, ⊤}
 use Rattle.std.specs.Str.{bytes_eq}
 use Rattle.clap.specs.Words.{Row, Text, first_of}
 use Rattle.kc_io.specs.History.{no_history}
 use Rattle.kc_io.specs.Sinks.{Written, HasWritten, HasBegun}
 use Rattle.kc_io.specs.Sources.{Seen}
+use Rattle.kc_report.specs.declared.header.Header.{Header}
 use Rattle.kc_report.specs.declared.report_faults.ReportFault.{ReportFault}
 use Rattle.kc_report.specs.AskedWords.{GivesCountsOf, HasCountsOf}
 use Rattle.kc_report.specs.Numbers.{GivesNumbers, IsCountOf, NumbersSeen}
 use Rattle.kc_report.specs.Querying.{IsAskable, IsFirstBadWord, query_text}
 use Rattle.kc_report.specs.Table.{MaySay, table_text}
 use Rattle.kc_report.specs.TableReading.{GivesTable, RefusesTable}
-use Rattle.kc_combine.specs.CombinedTexts.{CombinesTables, GiveTables}
-use Rattle.kc_combine.specs.JudgedTexts.{FitsInto, HasFirstFault, total_of_all}
+use Rattle.kc_combine.specs.CombinedTexts.{CombinesNot, CombinesTables, CombinesTexts, GiveTables}
+use Rattle.kc_combine.specs.JudgedTexts.{CanCombine, FitsInto, HasFirstFault, JudgesNot, total_of_all}
 use Rattle.kc_combine.specs.LoadedTables.{CombinesNoTables}
 use Rattle.kc_combine.specs.declared.combining.Combining.{Combining}
 use Rattle.kc_combine.specs.declared.combining.Combining.TheVariants as combination
@@ -55,8 +56,8 @@ use Rattle.kc_tool.specs.declared.told.CountedWords.{CountedWords}
 use Rattle.kc_tool.specs.declared.told.Told.{Told}
 use Rattle.kc_tool.specs.declared.told.Told.TheVariants as says
 use Rattle.kc_tool.specs.declared.commands.Task.{Task}
-use Rattle.kc_tool.specs.declared.commands.Task.TheVariants.{Count, CountListed, Report, Query, Combine, Select}
-use Rattle.kc_tool.specs.declared.commands.Task.TheVariants.{SelectPairs}
+use Rattle.kc_tool.specs.declared.commands.Task.TheVariants.{Count, CountListed, Report, Query, Combine, CombineFiles}
+use Rattle.kc_tool.specs.declared.commands.Task.TheVariants.{Select, SelectPairs}
 use Rattle.kc_tool.specs.declared.paired_sources.Pairing.{Pairing}
 use Rattle.kc_tool.specs.declared.commands.Verb.{Verb}
 use Rattle.kc_tool.specs.declared.commands.Verb.TheVariants as verb
@@ -130,6 +131,38 @@ Combines combining old new start now (Err fault) = ((now ≡ start) × TellFirst
     ⊎ ((tables : List TableSeen) × GiveTables most_table_bytes old new tables × ((why : CombineFault PlacedFault)
     × CombinesNoTables combining tables start now why × (fault ≡ combine_fault why)))
 
+-- The effect of a combination in two passes, over these sources of the first pass, before and after it, and these of
+-- the second one. The first sources gave tables that can be combined; then the second ones gave tables, and the table
+-- text of their combination was written, or why it was not. Or the first ones did not, and nothing else was read or
+-- written.
+abbrev pub CombinesInPasses : Combining → List Seen → List Seen → List Seen → List Seen → Written → Written
+    → Result Told ToolFault → Type 0
+CombinesInPasses combining first first_after second second_after start now (Ok told) =
+    ((header : Header) × CanCombine (λ seen. seen) combining most_table_bytes first first_after header)
+    × ((totals : Totals) × CombinesTexts combining most_table_bytes second second_after start now totals
+    × (totals.total ≤ 2 ^ 62) × (told ≡ says.Counted (counted_in totals)))
+CombinesInPasses combining first first_after second second_after start now (Err fault) =
+    ((why : CombineFault PlacedFault) × JudgesNot (λ seen. seen) combining most_table_bytes first first_after why
+    × (second_after ≡ second) × (now ≡ start) × (fault ≡ combine_fault why))
+    ⊎ ((header : Header) × CanCombine (λ seen. seen) combining most_table_bytes first first_after header
+    × ((why : CombineFault PlacedFault)
+    × CombinesNot (λ seen. seen) combining most_table_bytes second second_after start now why
+    × (fault ≡ combine_fault why)))
+
+-- The effect of a combination of files that are opened twice: those of the first half are the sources of the first
+-- pass, and the others those of the second one.
+pub record CombinesFiles (combining : Combining) (old new : List Seen) (start now : Written)
+    (outcome : Result Told ToolFault) : Type 0 where
+  pub first : List Seen
+  pub second : List Seen
+  pub are : old ≡ first ++ second
+  pub first_after : List Seen
+  pub second_after : List Seen
+  pub are_after : new ≡ first_after ++ second_after
+  pub halves : length first ≡ length second
+  pub halves_after : length first_after ≡ length second_after
+  pub done : CombinesInPasses combining first first_after second second_after start now outcome
+
 -- the sources of a command: the files that were opened, or the given input if there are none
 abbrev pub sources_from : Seen → List Seen → List Seen
 sources_from input [] = input ∷ []
@@ -172,13 +205,14 @@ HasWritableReport (Report report) = IsWritable report
 HasWritableReport task = ⊤
 
 -- the task has its files: a count with a list has the list, a selection has its table, a report on a table has at most
--- one source, and a selection of pairs has a table and two sources
+-- one source, a combination of files has each file twice, and a selection of pairs has a table and two sources
 abbrev pub HasFilesFor : {X : Type 0} → Task → List X → Type 0
 HasFilesFor (Count settings) files = ⊤
 HasFilesFor (CountListed settings) files = 1 ≤ length files
 HasFilesFor (Report report) files = length files ≤ 1
 HasFilesFor (Query words) files = length files ≤ 1
 HasFilesFor (Combine combining) files = ⊤
+HasFilesFor (CombineFiles combining) files = (half : ℕ) × (1 ≤ half) × (length files ≡ half + half)
 HasFilesFor (Select rule tells) files = 1 ≤ length files
 HasFilesFor (SelectPairs pairing) files = length files ≡ 3
 
@@ -190,6 +224,7 @@ IsTallyFor old new (CountListed settings) table = Counts old new settings table
 IsTallyFor old new (Report report) table = TellOneTable old.sources new.sources table
 IsTallyFor old new (Query words) table = TellOneTable old.sources new.sources table
 IsTallyFor old new (Combine combining) table = ⊥
+IsTallyFor old new (CombineFiles combining) table = ⊥
 IsTallyFor old new (Select rule tells) table = ⊥
 IsTallyFor old new (SelectPairs pairing) table = ⊥
 
@@ -200,6 +235,7 @@ HasNoTallyFor old new (CountListed settings) fault = RefusesCount old new settin
 HasNoTallyFor old new (Report report) fault = TellNoTable old.sources new.sources fault
 HasNoTallyFor old new (Query words) fault = TellNoTable old.sources new.sources fault
 HasNoTallyFor old new (Combine combining) fault = ⊥
+HasNoTallyFor old new (CombineFiles combining) fault = ⊥
 HasNoTallyFor old new (Select rule tells) fault = ⊥
 HasNoTallyFor old new (SelectPairs pairing) fault = ⊥
 
@@ -211,6 +247,7 @@ IsAnswer (Report report) table text = text ≡ report_text report table
 IsAnswer (Query words) table text = All (IsAskable table.0.k) (map string_bytes words.items)
     × (text ≡ query_text table.0 (map string_bytes words.items))
 IsAnswer (Combine combining) table text = ⊥
+IsAnswer (CombineFiles combining) table text = ⊥
 IsAnswer (Select rule tells) table text = ⊥
 IsAnswer (SelectPairs pairing) table text = ⊥
 
@@ -322,6 +359,7 @@ DoesByTally task old new (Err fault) = (new.output ≡ old.output) × HasFaultFo
 
 -- a task that takes its sources one after another
 abbrev pub TakesSources : Task → Type 0
+TakesSources (CombineFiles combining) = ⊥
 TakesSources (SelectPairs pairing) = ⊥
 TakesSources task = ⊤
 
@@ -331,6 +369,8 @@ Does (Select rule tells) old new outcome = SelectsBy rule tells old new outcome
 Does (SelectPairs pairing) old new outcome = SelectsPairsInto pairing old new outcome
 Does (Combine combining) old new outcome =
     Combines combining old.given.sources new.given.sources old.output new.output outcome
+Does (CombineFiles combining) old new outcome =
+    CombinesFiles combining old.given.sources new.given.sources old.output new.output outcome
 Does task old new outcome = DoesByTally task old new outcome
 
 -- the name of a command
@@ -372,9 +412,13 @@ AsksForTask verb.Histo rows (Report report) = (report.print ≡ print.Histo) × 
 AsksForTask verb.Stats rows (Report report) = report.print ≡ print.Stats
 AsksForTask verb.Query rows (Query words) = map string_bytes words.items ≡ words_asked rows
 AsksForTask verb.Merge rows (Combine asked) = asked ≡ combination.Merge
+AsksForTask verb.Merge rows (CombineFiles asked) = asked ≡ combination.Merge
 AsksForTask verb.Intersect rows (Combine asked) = AsksForIntersection rows asked
+AsksForTask verb.Intersect rows (CombineFiles asked) = AsksForIntersection rows asked
 AsksForTask verb.Subtract rows (Combine asked) = AsksForSubtraction rows asked
+AsksForTask verb.Subtract rows (CombineFiles asked) = AsksForSubtraction rows asked
 AsksForTask verb.Filter rows (Combine asked) = AsksForFilter rows asked
+AsksForTask verb.Filter rows (CombineFiles asked) = AsksForFilter rows asked
 AsksForTask verb.Select rows (Select rule tells) =
     AsksForSelection rows rule × IsFlag rows (codes "stats") tells × AsksForPairs rows None
 AsksForTask verb.Select rows (SelectPairs pairing) = AsksForSelection rows pairing.selection
@@ -428,6 +472,29 @@ files_of verb.Merge rows = tables_of rows
 files_of verb.Intersect rows = tables_of rows
 files_of verb.Subtract rows = tables_of rows
 files_of verb rows = take 1 (files_named rows)
+
+-- the files that a task opens, of those of its command: a combination of files opens all of them, and then all again
+abbrev pub opened_by : Task → List Text → List Text
+opened_by (CombineFiles combining) names = names ++ names
+opened_by task names = names
+
+-- a task that opens each of its files once
+abbrev pub OpensOnce : Task → Type 0
+OpensOnce (CombineFiles combining) = ⊥
+OpensOnce task = ⊤
+
+-- a command that combines tables
+abbrev pub IsCombination : Verb → Type 0
+IsCombination verb.Merge = ⊤
+IsCombination verb.Intersect = ⊤
+IsCombination verb.Subtract = ⊤
+IsCombination verb.Filter = ⊤
+IsCombination command = ⊥
+
+-- these are the files that a command opens
+abbrev pub AreFilesOf : Verb → List Row → List Text → Type 0
+AreFilesOf command rows names = (names ≡ files_of command rows)
+    ⊎ (IsCombination command × (names ≡ files_of command rows ++ files_of command rows))
 
 -- the second output of a command; only a selection can have one
 abbrev pub second_of : Verb → List Row → Option Text
@@ -530,7 +597,7 @@ pub record ComesToTask (command : Verb) (rows : List Row) (old new : Surrounding
   pub task : Task
   pub asks : AsksForTask command rows task
   pub files : List FileRead
-  pub opened : AreOpened (files_of command rows) files
+  pub opened : AreOpened (opened_by task (files_of command rows)) files
   pub input : KeepsInput (sources_in task (map (λ file. file.before) files)) old.input new.input
   pub done : DoesWith (output_of rows) (second_of command rows) task old new files outcome
 
@@ -555,11 +622,12 @@ IsRefusedOption command rows fault = ⊥
 abbrev pub IsRefused : Verb → List Row → List FileEvent → ToolFault → Type 0
 IsRefused command rows asked (BadOption name) = (first_refused command rows ≡ Some name) × (asked ≡ [])
 IsRefused command rows asked (OpenFailed name) = (first_refused command rows ≡ None)
-    × (LacksFile (files_of command rows) (output_of rows) (string_bytes name) asked
+    × (((names : List Text) × AreFilesOf command rows names
+    × LacksFile names (output_of rows) (string_bytes name) asked)
     ⊎ LacksSecondFile command rows (string_bytes name) asked)
 IsRefused command rows asked Memory = (asked ≡ [])
-    ⊎ ((name : Text) × LacksFile (files_of command rows) (output_of rows) name asked)
-    ⊎ LacksRoom (files_of command rows) (output_of rows) asked
+    ⊎ ((names : List Text) × AreFilesOf command rows names
+    × (((name : Text) × LacksFile names (output_of rows) name asked) ⊎ LacksRoom names (output_of rows) asked))
     ⊎ ((name : Text) × LacksSecondFile command rows name asked)
     ⊎ LacksSecondRoom command rows asked
 IsRefused command rows asked fault = ⊥

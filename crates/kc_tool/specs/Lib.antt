@@ -17,3 +17,4 @@ pub mod Reports
 pub mod Selections
 pub mod Tallies
 pub mod Told
+pub mod TwoPasses

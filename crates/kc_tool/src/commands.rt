@@ -1,5 +1,5 @@
 //! The commands: their tasks, the files that they read, and what they write.
-ghost use Rattle.std.specs.Prelude.{◌≡◌, ◌≤◌, ◌⊎◌, [], ◌∷◌, drop, length, map, string_bytes};
+ghost use Rattle.std.specs.Prelude.{◌≡◌, ◌≤◌, ◌⊎◌, [], ◌∷◌, ◌++◌, drop, length, map, string_bytes};
 ghost use Rattle.std.specs.Prelude.{option_map, unwrap_or};
 ghost use Rattle.std.specs.Prelude.{IfErr, IfOk, None};
 ghost use Rattle.clap.specs.Words.{all_of, found_of, rows_of};
@@ -22,6 +22,7 @@ ghost use Rattle.kc_tool.specs.Commands.{
   IsRefusedOption,
   KeepsInput,
   LacksOutput,
+  OpensOnce,
   SelectsBy,
   SelectsPairsInto,
   TakesSources,
@@ -30,6 +31,7 @@ ghost use Rattle.kc_tool.specs.Commands.{
   first_refused,
   given_listed,
   given_of,
+  opened_by,
   own_of,
   second_of,
   sources_in,
@@ -58,6 +60,7 @@ use crate::selected_sources::select_given;
 use crate::task_tallies::{asked_rows, numbers_of, report_listed, table_from, table_of, tables_of};
 use crate::told::{CountedWords, Told};
 use crate::tool_faults::{ToolFault, combine_fault};
+use crate::two_passes::combine_files;
 use clap::ArgMatches;
 use kc_combine::{Combining, combine_tables};
 use kc_command::command::{
@@ -135,11 +138,20 @@ pub(crate) enum Task {
     Query(Vec<String>),
     /// Reads tables, and writes the table of their combination.
     Combine(Combining),
+    /// Reads tables from regular files, each of which is opened twice, and writes the table of their combination.
+    CombineFiles(Combining),
     /// Reads a table, which is the first file, and writes the reads of the others that it selects, or their profiles;
     /// the flag is whether to print the numbers of the reads.
     Select(Selection, bool),
     /// Reads a table, which is the first file, and writes the pairs of reads of the two others that it selects.
     SelectPairs(Pairing),
+}
+
+/// What a command does: its task, and the names of the files that are opened for it, in order.
+#[derive(Drop)]
+struct Plan<'a> {
+    task: Task,
+    names: Vec<&'a str>,
 }
 
 /// Runs a command with its options: opens its files, takes its tally, and writes its text. Files are opened in order
@@ -173,30 +185,68 @@ pub(crate) fn run_command<
         (record { input = R.seen input.new; output = W.seen output.new; asked = files.new }) result }
 {
     let alloc = means.alloc;
-    let task = task_of(alloc, verb, matches)?;
-    let names = file_names(alloc, verb, matches)?;
-    let mut sources = open_files(alloc, files, &names)?;
-    if sources.len() <= own_file_count(&task) {
+    let plan = plan_of(alloc, verb, matches, files)?;
+    let mut sources = open_files(alloc, files, &plan.names)?;
+    if sources.len() <= own_file_count(&plan.task) {
         means.progress.input_is_read();
     }
     means
         .progress
-        .sources_have(size_behind(&sources, own_file_count(&task)));
+        .sources_have(size_behind(&sources, own_file_count(&plan.task)));
     let Some(name) = text_of(matches, "output") else {
-        let outcome = answer(means, &task, &mut sources, input, output);
+        let outcome = answer(means, &plan.task, &mut sources, input, output);
         take_sources(files, sources);
         return outcome;
     };
     match second_output(verb, matches) {
-        None => answer_into(means, &task, files, sources, input, name),
+        None => answer_into(means, &plan.task, files, sources, input, name),
         Some(other) => {
             let names = Sides {
                 first: name,
                 second: other,
             };
-            answer_apart(means, &task, files, sources, &names)
+            answer_apart(means, &plan.task, files, sources, &names)
         }
     }
+}
+
+// What a command does with these options. Tables that are combined are read twice if all are regular files. Condition:
+// the options don't conflict.
+fn plan_of<'a, S: Files>(
+    alloc: Global,
+    verb: Verb,
+    matches: &ArgMatches<'a>,
+    files: &NamedFiles<'_, S>,
+) -> Result<Plan<'a>, ToolFault>
+    requires { GoTogether verb (rows_of (found_of matches.now)) }
+    ensures asked { IfOk result (λ plan. AsksForTask verb (rows_of (found_of matches.now)) plan.task) }
+    ensures writable { IfOk result (λ plan. HasWritableReport plan.task) }
+    ensures lawful { IfOk result (λ plan. first_refused verb (rows_of (found_of matches.now)) ≡ None) }
+    ensures names { IfOk result (λ plan. map (λ name. name.now) plan.names.items
+        ≡ opened_by plan.task (files_of verb (rows_of (found_of matches.now)))) }
+    ensures files { IfOk result (λ plan. HasFilesFor plan.task plan.names.items) }
+    ensures refused { IfErr result (IsRefusedOption verb (rows_of (found_of matches.now))) }
+{
+    let task = task_of(alloc, verb, matches)?;
+    let names = file_names(alloc, verb, matches)?;
+    match task {
+        Task::Combine(combining) if files.are_regular(&names) => Ok(Plan {
+            task: Task::CombineFiles(combining),
+            names: twice(alloc, &names)?,
+        }),
+        task => Ok(Plan { task, names }),
+    }
+}
+
+// The names, followed by all of them again.
+fn twice<'a>(alloc: Global, names: &[&'a str]) -> Result<Vec<&'a str>, AllocError>
+    ensures { IfOk result (λ both. map (λ name. name.now) both.items
+        ≡ map (λ name. name.now) names.now ++ map (λ name. name.now) names.now) }
+{
+    let mut both = Vec::with_capacity(alloc, names.len())?;
+    both.extend_from_slice(names)?;
+    both.extend_from_slice(names)?;
+    Ok(both)
 }
 
 // The second output of a command, which only a selection can have.
@@ -296,7 +346,7 @@ fn write_apart<H: Threads, F: Source, W: Sink, P: Progress>(
 
 // Does a task with its files, which keep their names: it takes its tally or reads, and writes its text. The progress of
 // a count is reported.
-fn answer<H: Threads + Wait + Sync, R: Source, F: Source, W: Sink, P: Progress + Sync>(
+fn answer<H: Threads + Wait + Sync, R: Source, F: Source + Drop, W: Sink, P: Progress + Sync>(
     means: &Means<'_, H, P>,
     task: &Task,
     files: &mut Vec<NamedSource<'_, F>>,
@@ -320,6 +370,7 @@ fn answer<H: Threads + Wait + Sync, R: Source, F: Source, W: Sink, P: Progress +
     ensures names { names_of files.new.items ≡ names_of files.old.items }
 {
     match task {
+        Task::CombineFiles(combining) => combine_files(means, *combining, files, output),
         Task::SelectPairs(pairing) => pair_by_table(means, pairing, files, output),
         _ => answer_of_sources(means, task, files, input, output),
     }
@@ -354,7 +405,7 @@ fn answer_of_sources<H: Threads + Wait + Sync, R: Source, F: Source, W: Sink, P:
         Task::Select(selection, tells) => {
             select_by_table(means, *selection, *tells, &mut sources, output)
         }
-        Task::SelectPairs(_) => unreachable!(),
+        Task::CombineFiles(_) | Task::SelectPairs(_) => unreachable!(),
     }
 }
 
@@ -559,6 +610,7 @@ fn task_of(alloc: Global, verb: Verb, matches: &ArgMatches<'_>) -> Result<Task, 
     ensures asked { IfOk result (AsksForTask verb (rows_of (found_of matches.now))) }
     ensures writable { IfOk result HasWritableReport }
     ensures lawful { IfOk result (λ task. first_refused verb (rows_of (found_of matches.now)) ≡ None) }
+    ensures once { IfOk result OpensOnce }
     ensures refused { IfErr result (IsRefusedOption verb (rows_of (found_of matches.now))) }
 {
     match verb {
@@ -602,6 +654,7 @@ fn selection_task(matches: &ArgMatches<'_>) -> Result<Task, ToolFault>
     ensures asked { IfOk result (AsksForTask Verb.Select (rows_of (found_of matches.now))) }
     ensures writable { IfOk result HasWritableReport }
     ensures lawful { IfOk result (λ task. first_refused Verb.Select (rows_of (found_of matches.now)) ≡ None) }
+    ensures once { IfOk result OpensOnce }
     ensures refused { IfErr result (IsRefusedOption Verb.Select (rows_of (found_of matches.now))) }
 {
     let SelectOptions { selection, pairs } = select_options(matches)?;

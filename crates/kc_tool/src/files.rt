@@ -1,10 +1,11 @@
 //! The files that a command line names.
 //!
 //! No contract states what a file contains, or what the system does. So the calls to a runtime here have to be reviewed
-//! by eye: each method of `NamedFiles` makes one call, with the name that the log keeps, or also looks up how large the
-//! file is or what permissions it has, and nothing else requests anything of files.
-ghost use Rattle.std.specs.Prelude.{◌≡◌, List, [], ◌∷◌, ◌++◌, IfErr, IfOk, IfSome, MatchOption, map, string_bytes};
-ghost use Rattle.std.specs.Prelude.{if◌then◌else◌};
+//! by eye: each method of `NamedFiles` that the log records makes one call, with the name that the log keeps, or also
+//! looks up how large the file is or what permissions it has. `are_regular` looks up of what kinds the named files are,
+//! and nothing else requests anything of files.
+ghost use Rattle.std.specs.Prelude.{◌≡◌, ◌≤◌, List, [], ◌∷◌, ◌++◌, length, map, string_bytes, true, if◌then◌else◌};
+ghost use Rattle.std.specs.Prelude.{IfErr, IfOk, IfSome, MatchOption};
 ghost use Rattle.kc_io.specs.History.{no_history};
 ghost use Rattle.kc_tool.specs.FileEvents.{FileEvent, event, followed, made, not_created, not_followed};
 ghost use Rattle.kc_tool.specs.FileEvents.{not_made, not_opened, not_removed, not_renamed, opened, opened_to_write};
@@ -242,6 +243,13 @@ impl<'a, H: Files> NamedFiles<'a, H> {
         self.notes?.refusal.get()
     }
 
+    /// Whether there are such names, and each is that of a regular file.
+    pub(crate) fn are_regular(&self, names: &[&str]) -> bool
+        ensures { result ≡ true → 1 ≤ length names.now }
+    {
+        !names.is_empty() && names.iter().all(|name| is_regular(self.rt, *name))
+    }
+
     /// Opens the file with this name; None if it can't be opened.
     pub(crate) fn open<'n>(&mut self, name: &'n str) -> Option<NamedSource<'n, FileSource<H::File>>>
         ensures asked { MatchOption result (self.new ≡ self.old ++ not_opened name.entry.now ∷ [])
@@ -430,6 +438,14 @@ impl<F: Write> NamedSink<F> {
     {
         let NamedSink { name, sink } = self;
         (name, sink)
+    }
+}
+
+// Whether a regular file has this name.
+fn is_regular<H: Files>(rt: &H, name: &str) -> bool {
+    match rt.metadata(name) {
+        Ok(metadata) => metadata.is_file(),
+        Err(_) => false,
     }
 }
 

@@ -51,6 +51,7 @@ mod task_tallies;
 mod terminal_line;
 mod told;
 mod tool_faults;
+mod two_passes;
 
 pub use command_line::run;
 pub use count_progress::{NoProgress, Progress, Stage};

@@ -2,6 +2,7 @@
 ghost use Rattle.kc_tool.specs.MergedReports.{
   ApartIsTogether,
   MergeWritesMerged,
+  MergeWritesMergedFiles,
   MergedReports,
   OneReport,
   ReportTellsReads,
@@ -23,6 +24,7 @@ pub fn merged_reports(options: &Options)
     ensures only { OneReport }
     ensures together { ApartIsTogether options.now }
     ensures command { MergeWritesMerged }
+    ensures files { MergeWritesMergedFiles }
 {
     // for the proof: facts about a length and a floor
     let rule = options.rule();

@@ -32,7 +32,7 @@ use std::sync::Wait;
 use std::thread::Threads;
 
 /// The greatest number of bytes of a table.
-const MAX_TABLE_BYTES: u64 = 1 << 42;
+pub(crate) const MAX_TABLE_BYTES: u64 = 1 << 42;
 
 /// Counts those words that occur in the reads of the first file, in the reads of the sources, and writes the report
 /// that the options ask for, as `report_given` does. The progress is reported. Condition: only the first file comes

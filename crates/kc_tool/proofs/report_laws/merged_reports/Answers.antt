@@ -1,4 +1,4 @@
-use Rattle.kc_tool.proofs.MergedReportsLemmas.{AreSettings, apart_is_together, merge_writes, merged_reports}
+use Rattle.kc_tool.proofs.MergedReportsLemmas.{AreSettings, apart_is_together, merge_writes, merge_writes_files, merged_reports}
 use Rattle.kc_tool.proofs.MergedReportsLemmas.{one_report, report_tells, reports_fit, reports_match}
 use Rattle.kc_tool.proofs.report_laws.merged_reports.Goals as goal
 
@@ -19,4 +19,5 @@ returns c =
       only = one_report;
       together = apart_is_together settings are;
       command = merge_writes;
+      files = merge_writes_files;
     }
