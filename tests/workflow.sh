@@ -67,9 +67,11 @@ called() {
     snakemake --snakefile "$here/../workflow/Snakefile" --scheduler greedy --cores 2 "${@:2}" \
         --config "${settings[@]}" > log 2>&1
 }
-# flow RESULTS PROGRAM OPTION..: runs the workflow over the files in reads/
+# flow RESULTS PROGRAM OPTION..: runs the workflow over the files in reads/, and merges so many tables at once
+merged=64
 flow() {
-    called "reads=reads/*" "results=$1" "kcount=$2" k=15 least_quality=+ reads_per_part=7 -- "${@:3}"
+    called "reads=reads/*" "results=$1" "kcount=$2" k=15 least_quality=+ reads_per_part=7 "tables_per_merge=$merged" \
+        -- "${@:3}"
 }
 # The table of the files as they are, counted at once.
 at_once() {
@@ -106,7 +108,7 @@ grep -q 'Nothing to be done' log || fails "a second run does something"
 killed_at() {
     local tries before
     before=$(calls "$1")
-    setsid bash -c "$(declare -f called flow); here=$here; flow killed '$work/programs/slow' --rerun-incomplete" &
+    setsid bash -c "$(declare -f called flow); here=$here; merged=$merged; flow killed '$work/programs/slow' --rerun-incomplete" &
     running=$!
     for tries in $(seq 1 600); do
         [ "$(calls "$1")" -lt $((before + $2)) ] || break
@@ -118,8 +120,15 @@ killed_at() {
     [ ! -e killed/table.kct ] || fails "a run had its table before it was killed"
     flow killed "$work/programs/slow" --unlock || fails "a killed run can't be unlocked"
 }
-# A run that is killed while it counts, and again while it merges, goes on where it was: nothing is done again but the
-# two steps that were in work when it was killed, both times.
+# 71 parts are 64 tables in the last merge, seven of which are sums of two.
+: > calls
+flow wide "$work/programs/slow" || fails "a run of wide merges failed"
+is_right wide "a run of wide merges"
+[ "$(calls count) $(calls merge)" = "$parts 8" ] || fails "$(calls count) counts of $parts parts, and $(calls merge) merges"
+
+# A run that is killed while it counts, and again while it merges pairs, goes on where it was: nothing is done again but
+# the two steps that were in work when it was killed, both times.
+merged=2
 : > calls
 killed_at count 20
 killed_at merge 10
@@ -128,6 +137,7 @@ is_right killed "a killed run"
 steps=$(($(calls count) + $(calls merge)))
 [ "$(calls count)" -ge $parts ] && [ "$(calls merge)" -ge $((parts - 1)) ] && [ $steps -le $((2 * parts - 1 + 4)) ] \
     || fails "$(calls count) counts of $parts parts, and $(calls merge) merges of their tables"
+merged=64
 
 # A file that is newer than its list has to be cut again: the run says so, and goes on when the list is gone.
 mended() {

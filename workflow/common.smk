@@ -10,7 +10,9 @@ from snakemake.common import Mode
 
 RESULTS = config["results"]
 LIST = f"{RESULTS}/parts.tsv"
-# The tree of the sums has at most so many levels below the whole, which is enough for a million parts.
+# One merge takes at most so many tables.
+MERGED = config["tables_per_merge"]
+# The tree of the sums has at most so many levels below the whole, which is enough for a million parts in pairs.
 LEVELS = 19
 # The parts are counted in so many turns: the first ones in the tree, the next ones, and so on.
 TURNS = 32
@@ -100,26 +102,34 @@ def parts_in_list():
 def sum_of(first, last):
     """The table of the parts from `first` to `last`."""
     if first < last:
-        return f"{RESULTS}/sums/{(last - first).bit_length()}/{first}-{last}.kct"
+        return f"{RESULTS}/sums/{level_of(last - first + 1)}/{first}-{last}.kct"
     _, names = parts_in_list()
     file, part = names[first]
     return f"{RESULTS}/tables/{first * TURNS // len(names)}/{file}/{part}.kct"
 
 
-def halves(first, last):
-    """The two tables whose sum is that of the parts from `first` to `last`; the one table where these are one part."""
-    if first == last:
-        return [sum_of(first, last)]
-    middle = (first + last) // 2
-    return [sum_of(first, middle), sum_of(middle + 1, last)]
+def level_of(parts):
+    """How many merges follow one another until so many parts are one table."""
+    level, reached = 0, 1
+    while reached < parts:
+        level, reached = level + 1, reached * MERGED
+    return level
 
 
-def halves_of_a_sum(wildcards):
-    return halves(int(wildcards.first), int(wildcards.last))
+def terms(first, last):
+    """The tables whose sum is that of the parts from `first` to `last`, each of about as many parts."""
+    parts = last - first + 1
+    many = min(parts, MERGED)
+    starts = [first + parts * term // many for term in range(many + 1)]
+    return [sum_of(start, after - 1) for start, after in zip(starts, starts[1:])]
 
 
-def halves_of_the_whole(wildcards):
-    return halves(0, len(parts_in_list()[1]) - 1)
+def terms_of_a_sum(wildcards):
+    return terms(int(wildcards.first), int(wildcards.last))
+
+
+def terms_of_the_whole(wildcards):
+    return terms(0, len(parts_in_list()[1]) - 1)
 
 
 def folder_and_file(wildcards):
@@ -185,8 +195,10 @@ def largest_at_once(positions, parts):
     """The most rows of tables that there are at once, while parts with so many positions are counted and summed."""
     if parts <= 1:
         return different(positions)
-    half = different(positions / 2)
-    return max(half + largest_at_once(positions / 2, parts / 2), 2 * half + different(positions))
+    many = min(math.ceil(parts), MERGED)
+    term = different(positions / many)
+    others = (many - 1) * term
+    return max(others + largest_at_once(positions / many, parts / many), others + term + different(positions))
 
 
 def plan():
