@@ -55,15 +55,15 @@ module _ {S : Type 0} (seen : S → Seen) (limit : ℕ) where
   gave_to (suc i) (old ∷ olds) (new ∷ news) (table ∷ tables) h = (h.0, gave_to i olds news tables h.1)
 
   -- They can be combined.
-  pub can_combine : {combining : Combining} {olds news : List S} {header : Header}
-      → CanCombine seen combining limit olds news header
-      → CanCombine same combining limit (map seen olds) (map seen news) header
-  can_combine {combining} {olds} {news} h = record {
-    tables = h.tables;
-    given = gave olds news h.tables h.given;
-    headed = h.headed;
-    fits = h.fits;
-  }
+  pub can_combine : {combining : Combining} {lent news : List S} {header : Header} (olds : List S) → lent ≡ olds
+      → CanCombine seen combining limit lent news header → CanCombine same combining limit (map seen olds) (map seen news) header
+  can_combine {combining} {lent} {news} {header} olds is h =
+      subst (λ v. CanCombine same combining limit (map seen v) (map seen news) header) is (record {
+        tables = h.tables;
+        given = gave lent news h.tables h.given;
+        headed = h.headed;
+        fits = h.fits;
+      })
 
   can_not_combine : {combining : Combining} {olds news : List S} {fault : CombineFault PlacedFault}
       → CanNotCombine seen combining limit olds news fault

@@ -2,8 +2,8 @@
 //!
 //! No contract states what a file contains, or what the system does. So the calls to a runtime here have to be reviewed
 //! by eye: each method of `NamedFiles` that the log records makes one call, with the name that the log keeps, or also
-//! looks up how large the file is or what permissions it has. `are_regular` looks up of what kinds the named files are,
-//! and nothing else requests anything of files.
+//! looks up how large the file is or what permissions it has. `are_regular` looks up what the named files are, and
+//! nothing else requests anything of files.
 ghost use Rattle.std.specs.Prelude.{◌≡◌, ◌≤◌, List, [], ◌∷◌, ◌++◌, length, map, string_bytes, true, if◌then◌else◌};
 ghost use Rattle.std.specs.Prelude.{IfErr, IfOk, IfSome, MatchOption};
 ghost use Rattle.kc_io.specs.History.{no_history};

@@ -1,6 +1,6 @@
 use Rattle.std.proofs.Common.{◌∙◌, ap, arith, inl, inr, length, map, refl, subst}
 use Rattle.kc_io.specs.Sources.{Seen}
-use Rattle.kc_combine.specs.JudgedTexts.{CanCombine, JudgesNot}
+use Rattle.kc_combine.specs.JudgedTexts.{JudgesNot}
 use Rattle.kc_combine.proofs.CombinedTextLemmas.{vec_after}
 use Rattle.kc_tool.specs.Commands.{most_table_bytes}
 use Rattle.kc_tool.specs.declared.told.Told.TheVariants as says
@@ -26,8 +26,7 @@ returns-in-Err-combine_texts-clause-done g c =
     let later = c.judge_texts.new.sources in
     let after = vec_after first.len later first.items (omega (arith, first.ok)) (c.judge_texts.ensures.long ∙ ap length was) in
     let header = c.in_default.field-0 in
-    let can = subst (λ olds. CanCombine (λ (v : Seen). v) c.args.combining most_table_bytes (map seen olds) (map seen later) header) was
-    (can_combine seen most_table_bytes c.in_default.ensures.judged) in
+    let can = can_combine seen most_table_bytes first.items was c.in_default.ensures.judged in
     let fault = c.in-Err-combine_texts.fault in
     let why = combines_not seen most_table_bytes c.args.combining c.args.self.now.second.items c.combine_texts.new.sources.items
     (g.W.Sink.seen c.args.output.now) (g.W.Sink.seen c.combine_texts.new.writer) fault c.in-Err-combine_texts.ensures.fault in
@@ -41,6 +40,5 @@ returns-in-Ok-clause-done g c =
     let later = c.judge_texts.new.sources in
     let after = vec_after first.len later first.items (omega (arith, first.ok)) (c.judge_texts.ensures.long ∙ ap length was) in
     let header = c.in_default.field-0 in
-    let can = subst (λ olds. CanCombine (λ (v : Seen). v) c.args.combining most_table_bytes (map seen olds) (map seen later) header) was
-    (can_combine seen most_table_bytes c.in_default.ensures.judged) in
+    let can = can_combine seen most_table_bytes first.items was c.in_default.ensures.judged in
     rw after ((header, can), (c.in-Ok.totals, c.in-Ok.ensures.combined, c.in-Ok.ensures.most, ap says.Counted c.of_totals.ensures))
