@@ -23,8 +23,8 @@ def text_of(path):
 
 
 def kind_of(words, incremental):
-    """Returns what a process checks: the folder that it keeps proofs in tells an edit, the command tells tests."""
-    if "/kept-" in incremental:
+    """Returns what a process checks: an edit is checked over the folder `kept` of the full test or a copy of it."""
+    if re.search(r"/kept(-|/|$)", incremental):
         return "edits"
     return "tests" if os.path.basename(words[0]) == "rattle-test" else "proof"
 

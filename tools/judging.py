@@ -18,8 +18,8 @@ from dataclasses import dataclass
 PUB = r"(?:pub(?:\(\w+\))? )?"
 # What the checker says of a proof that names what is not there (an edit may have taken it away).
 NAMES = r"is not in scope|has no field|has no `|was not admitted|is no name"
-# What `rt ci` says once it has proved a crate.
-PROVED = "rt: {} proved\n"
+# What `rt ci` says once it has proved a crate, or has given back what an earlier run proved.
+PROVED = r"(?m)^rt: {}( proved$| is kept: )"
 
 
 @dataclass(frozen=True)
@@ -236,4 +236,4 @@ def has_ended(log):
 
 def is_proved(name, log):
     """Returns whether `rt ci`, which writes this log, is done with the proof of the crate of that name."""
-    return has_ended(log) or PROVED.format(name) in log
+    return has_ended(log) or bool(re.search(PROVED.format(name), log))
