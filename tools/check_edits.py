@@ -2,8 +2,8 @@
 """Checks that each edit can be tried, without a proof:
     tools/check_edits.py [CRATE..]
 It reads each file of crates/NAME/edits as the tool that tries it does: the old text occurs exactly once in the file, or
-in the function that the edit names, the function of each line `refused:` is in the crate, and what a new line calls
-exists. It prints each edit that can't be tried, and then the status is 1. It takes seconds; `make edits`
+in the function that the edit names, the function of each line `refused:` is in the crate and is one of those that the
+edit changes, and what a new line calls exists. It prints each edit that can't be tried, and then the status is 1. It takes seconds; `make edits`
 tries the edits.
 """
 
@@ -55,6 +55,8 @@ def faults_of_edits(rt, crate, known):
     there = functions_in(crate.folder)
     failed |= {it.name: f"there is no function {it.refused}" for it in read if not is_there(it, there)}
     failed |= {it.name: "it changes nothing" for it in read if not it.lines}
+    for it in (it for it in read if it.changed and it.refused in there - it.changed):
+        failed[it.name] = f"its text is in {', '.join(sorted(it.changed))}, and not in {it.refused}"
     for it in read:
         if unknown := unknown_calls(it, known):
             failed[it.name] = f"there is no {', '.join(sorted(unknown))}"
