@@ -1,5 +1,5 @@
 /* When a file is opened for the second time, opens the one whose name has ".later" behind it, if there is one: a file
- * that changes while a command reads it twice. Preload it as LD_PRELOAD. */
+ * that changes while a command reads it twice. It is loaded with LD_PRELOAD. */
 #define _GNU_SOURCE
 #include <dlfcn.h>
 #include <fcntl.h>

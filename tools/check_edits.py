@@ -3,8 +3,8 @@
     tools/check_edits.py [CRATE..]
 It reads each file of crates/NAME/edits as the tool that tries it does: the old text occurs exactly once in the file, or
 in the function that the edit names, the function of each line `refused:` is in the crate and is one of those that the
-edit changes, and what a new line calls exists. It prints each edit that can't be tried, and then the status is 1. It takes seconds; `make edits`
-tries the edits.
+edit changes, and what a new line calls exists. It prints each edit that can't be tried, and then the status is 1. It
+takes seconds; `make edits` tries the edits.
 """
 
 import os
