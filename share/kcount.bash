@@ -8,8 +8,8 @@ _kcount() {
     [ "$word" != = ] || word=
     [ "$before" != = ] || before=${COMP_WORDS[COMP_CWORD - 2]}
     case $command in
-        '') offered='count dump histo stats query merge intersect subtract filter select profile help -h --help -V --version' ;;
-        help) offered='count dump histo stats query merge intersect subtract filter select profile help' ;;
+        '') offered='count dump histo stats query merge intersect subtract filter compare select profile help -h --help -V --version' ;;
+        help) offered='count dump histo stats query merge intersect subtract filter compare select profile help' ;;
         count)
             case $before in
                 -m | --mer-len) return ;;
@@ -82,6 +82,14 @@ _kcount() {
                 -U | --upper-count) return ;;
                 -o | --output) ;;
                 *) [[ $word != -* ]] || offered='-L --lower-count -U --upper-count -o --output --explain -h --help' ;;
+            esac
+            ;;
+        compare)
+            case $before in
+                --solid) return ;;
+                --high) return ;;
+                -o | --output) ;;
+                *) [[ $word != -* ]] || offered='--solid --matrix --high -o --output --explain -h --help' ;;
             esac
             ;;
         select)

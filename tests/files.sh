@@ -349,6 +349,10 @@ changed 1 '' 'kcount: 42: bad row, line 2' old $'KCT 2 3 s a 33 1\nCCC\nEND 1 1'
 changed 1 '' 'kcount: 43: bad end' old $'KCT 2 3 s a 33 1\nCCC 1' merge -o out one.kct two.kct
 changed 1 '' 'kcount: 61: tables do not match' old $'KCT 2 3 c a 33 1\nAAA 1\nEND 1 1' intersect -o out one.kct two.kct
 changed 1 '' 'kcount: 41: bad header' old 'CCC 1' subtract one.kct two.kct
+changed 0 $'0\t1\t3\n5\t0\t1' '' old $'KCT 2 3 s a 33 1\nTTT 9\nEND 1 9' compare --matrix one.kct two.kct
+changed 1 '' 'kcount: 42: bad row, line 2' old $'KCT 2 3 s a 33 1\nCCC\nEND 1 1' compare one.kct two.kct
+changed 0 'TTT 9' '' old $'KCT 2 3 s a 33 1\nTTT 9\nEND 1 9' dump -c two.kct
+changed 1 '' 'kcount: 43: bad end' old $'KCT 2 3 s a 33 1\nCCC 1' dump -c -o out two.kct
 
 # a pipe whose reader goes after one line, while far more is to be written than a pipe holds
 set +o pipefail

@@ -63,6 +63,11 @@ refuse_growths 'a merge' $'KCT 2 3 c a 33 3\nAAA 4\nACG 2\nGTA 2\nEND 3 8\n' 46 
     merge "$work/first.kct" "$work/second.kct"
 refuse_growths 'an intersection' $'KCT 1 3 c\nGTA 1\nEND 1 1\n' 46 /dev/null \
     intersect --take max "$work/first.kct" "$work/second.kct" "$work/first.kct"
+refuse_growths 'a comparison' $'Reads_distinct:         2\nAssembly_distinct:      2\nShared_distinct:        1\nAssembly_total:         5\nAssembly_only_distinct: 1\nAssembly_only_total:    4\nSolid_distinct:         1\nSolid_shared:           0\n' 46 /dev/null \
+    compare "$work/first.kct" "$work/second.kct"
+refuse_growths 'a spectrum of copy numbers' $'0\t2\t1\n1\t1\t1\n4\t0\t1\n' 46 /dev/null \
+    compare --matrix "$work/first.kct" "$work/second.kct"
+refuse_growths 'a dump of a table' $'ACG 2\nGTA 1\n' 46 /dev/null dump -c "$work/first.kct"
 refuse_growths 'a histogram of a table' $'1 1\n2 1\n' 46 /dev/null histo "$work/first.kct"
 refuse_growths 'statistics of a table' $'Unique:    1\nDistinct:  2\nTotal:     3\nMax_count: 2\n' 46 /dev/null \
     stats "$work/first.kct"
@@ -99,7 +104,7 @@ done
 echo "memory: a histogram, statistics and a query of a million rows take no more than of two"
 
 # Three tables of 100 MB, the same file each, are merged in the address space of three small ones and 16 MB. So are they
-# intersected and subtracted.
+# intersected and subtracted, and two of them are compared, and one is filtered and dumped.
 {
     echo 'KCT 1 31 s'
     for first in A C G; do
@@ -117,8 +122,15 @@ for asked in 'merge 3145728 9437184' 'intersect 3145728 3145728' 'subtract 0 0';
 done
 (ulimit -v $(((few + 16) * 1024)) && exec "$kcount" filter -L 2 "$work/large.kct") > "$work/got" \
     && [ "$(cat "$work/got")" = $'KCT 1 31 s\nEND 0 0' ] || { echo "memory: a filter of 100 MB takes more than $((few + 16)) MB"; exit 1; }
+few=$(least_space compare "$work/two.kct" "$work/two.kct")
+(ulimit -v $(((few + 16) * 1024)) && exec "$kcount" compare --matrix "$work/large.kct" "$work/large.kct") > "$work/got" \
+    && [ "$(cat "$work/got")" = $'1\t1\t3145728' ] || { echo "memory: a comparison of two tables of 100 MB takes more than $((few + 16)) MB"; exit 1; }
+few=$(least_space dump "$work/two.kct")
+(ulimit -v $(((few + 16) * 1024)) && exec "$kcount" dump -c "$work/large.kct") | awk 'END { print NR, $0 }' > "$work/got" \
+    && [ "$(cat "$work/got")" = "3145728 $(tail -n 2 "$work/large.kct" | head -n 1)" ] \
+    || { echo "memory: a dump of 100 MB takes more than $((few + 16)) MB"; exit 1; }
 rm "$work/large.kct"
-echo "memory: three tables of 100 MB are merged, intersected and subtracted, and one is filtered, in 16 MB more than small ones"
+echo "memory: tables of 100 MB are merged, intersected, subtracted, compared, filtered and dumped in 16 MB more than small ones"
 
 # one test of a crate, with its n-th growth refused
 refused_test() {

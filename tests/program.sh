@@ -87,7 +87,7 @@ helps() {
 helps kcount --help
 helps kcount -h
 helps kcount help
-for command in count dump histo stats query merge intersect subtract filter select profile; do
+for command in count dump histo stats query merge intersect subtract filter compare select profile; do
     helps "$command" "$command" --help
     helps "$command" "$command" -h
     helps "$command" help "$command"
@@ -102,7 +102,7 @@ refuses() {
     shift
     wants 2 '' "error: $text$more" "$reads" kcount "$@"
 }
-refuses $'\'kcount\' requires a subcommand but one was not provided\n  [subcommands: count, dump, histo, stats, query, merge, intersect, subtract, filter, select, profile, help]\n'"$usage"
+refuses $'\'kcount\' requires a subcommand but one was not provided\n  [subcommands: count, dump, histo, stats, query, merge, intersect, subtract, filter, compare, select, profile, help]\n'"$usage"
 refuses $'unrecognized subcommand \'frob\'\n'"$usage" frob
 refuses $'unrecognized subcommand \'frob\'\n'"$usage" frob --help
 refuses $'unrecognized subcommand \'coun\'\n\n  tip: a similar subcommand exists: \'count\'\n'"$usage" coun -m 3
@@ -126,6 +126,8 @@ for command in merge intersect subtract; do
 done
 refuses $'the following required arguments were not provided:\n  <SECOND>...\n\nUsage: kcount intersect <FIRST> <SECOND>...\n' intersect two.kct
 refuses $'the following required arguments were not provided:\n  <SECOND>...\n\nUsage: kcount subtract <FIRST> <SECOND>...\n' subtract two.kct
+refuses $'the following required arguments were not provided:\n  <READS>\n  <ASSEMBLY>\n\nUsage: kcount compare <READS> <ASSEMBLY>\n' compare
+refuses $'unexpected argument \'c\' found\n\nUsage: kcount compare [OPTIONS] <READS> <ASSEMBLY>\n' compare a b c
 refuses $'a value is required for \'--take <WHICH>\' but none was supplied\n' intersect two.kct two.kct --take
 refuses $'unexpected argument \'b\' found\n\nUsage: kcount filter [OPTIONS] [FILE]\n' filter a b
 refuses $'unexpected argument \'-C\' found\n\n  tip: to pass \'-C\' as a value, use \'-- -C\'\n\nUsage: kcount merge [OPTIONS] <FIRST> <SECOND>...\n' merge -C two.kct two.kct
@@ -258,8 +260,8 @@ defaults() {
         [[ -z $help || $help == *"[default: $told"[],]* ]] || fails "the help of $command has another default of --$option"
     done
     [ -z "$setting" ] || grep -qE "(^| )$setting(;| \})" "$definitions/Settings.antt" || fails "Settings.antt doesn't have $setting, as the help tells"
-    grep -qE "or_default $asked .*\(codes \"$option\"\) rows\)" "$definitions/Arguments.antt" \
-        || fails "Arguments.antt doesn't have $asked for --$option, as the help tells"
+    grep -qE "or_default $asked .*\(codes \"$option\"\) rows\)" "$definitions/Options.antt" \
+        || fails "Options.antt doesn't have $asked for --$option, as the help tells"
 }
 defaults size 1M 'size = 1000000' 1000000
 defaults threads 1 'workers = 1' 1
@@ -440,6 +442,45 @@ fault 1 '62: sums too large' '' kcount intersect --take sum most.kct acg.kct
 fault 2 '51: bad option --take' '' kcount intersect --take least one.kct acg.kct
 fault 2 '51: bad option --take' '' kcount intersect --take '' missing missing
 fault 2 '51: bad option --lower-count' '' kcount filter -U x -L y missing
+
+# A table of reads is compared with one of an assembly: numbers of k-mers, and the spectrum of copy numbers.
+numbers() {
+    printf 'Reads_distinct:         %s\nAssembly_distinct:      %s\nShared_distinct:        %s\nAssembly_total:         %s\n' "${@:1:4}"
+    printf 'Assembly_only_distinct: %s\nAssembly_only_total:    %s\nSolid_distinct:         %s\nSolid_shared:           %s\n.' "${@:5}"
+}
+compares() {
+    local text=$1
+    shift
+    wants 0 "${text%.}" '' '' kcount compare "$@"
+}
+printf 'KCT 1 3 s\nACG 1\nCGA 1\nGAA 1\nEND 3 3\n' > assembly.kct
+compares "$(numbers 3 3 1 3 2 2 1 1)" merged.kct assembly.kct
+compares "$(numbers 3 3 1 3 2 2 3 1)" --solid 0 merged.kct assembly.kct
+compares "$(numbers 3 3 1 3 2 2 1 1)" --solid 3 --high 1 merged.kct assembly.kct
+compares "$(numbers 3 3 1 3 2 2 0 0)" --solid 4 merged.kct assembly.kct
+compares "$(numbers 3 3 1 5 2 2 3 1)" --solid 1 assembly.kct merged.kct
+compares "$(numbers 3 3 3 5 0 0 1 1)" merged.kct merged.kct
+compares "$(numbers 0 3 0 5 3 5 0 0)" <(printf '%s' "$nothing") merged.kct
+compares "$(numbers 3 0 0 0 0 0 1 0)" merged.kct <(printf '%s' "$nothing" | gzip)
+compares $'0\t1\t2\n1\t0\t2\n1\t3\t1\n.' --matrix merged.kct assembly.kct
+compares $'0\t1\t2\n1\t0\t2\n1\t3\t1\n.' --matrix merged.kct <(cat assembly.kct)
+compares $'0\t1\t2\n1\t0\t2\n1\t2\t1\n.' --matrix --high 1 merged.kct assembly.kct
+printf 'KCT 1 3 s\nAAA 4\nACG 5\nCCC 6\nCGT 1\nEND 4 16\n' > repeats.kct
+compares $'0\t1\t1\n1\t1\t1\n4\t0\t1\n5\t0\t1\n5\t3\t1\n.' --matrix --high 3 merged.kct repeats.kct
+for wrong in "canonical.kct merged.kct" "merged.kct canonical.kct"; do
+    # shellcheck disable=SC2086
+    fault 1 '61: tables do not match' '' kcount compare $wrong
+done
+fault 1 '41: bad header' '' kcount compare reads.fa canonical.kct
+fault 1 '41: bad header' '' kcount compare --matrix merged.kct reads.fa
+fault 1 '45: table read failed' '' kcount compare a-directory reads.fa
+fault 1 '54: cannot open missing' '' kcount compare reads.fa missing
+fault 2 '51: bad option --solid' '' kcount compare --solid 2.5 --high 0 missing missing
+fault 2 '51: bad option --high' '' kcount compare --high 10000001 missing missing
+# a dump of a pipe, and of a file that is compressed
+wants 0 $'ACG 3\nCGT 1\nGTA 1\n' '' '' kcount dump -c <(cat merged.kct)
+gzip -c merged.kct > merged.kct.gz
+wants 0 $'ACG 3\n' '' '' kcount dump -c -L 2 merged.kct.gz
 
 # A row takes one word of 64 bits, and a count that does not fit beside its word stands apart. Beside a word of 31 bases
 # some counts of a thousand don't.

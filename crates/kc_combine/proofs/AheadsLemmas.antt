@@ -1,17 +1,17 @@
 -- A row is taken of a table that is read row by row.
-use Rattle.std.proofs.Common.{◌≡◌, ℕ, zero, suc, get_or, slice_set, ◌+◌, ◌<◌, ◌≤◌, List, [], ◌∷◌, ◌++◌, length, IfSome, IfNone, refl, ap, subst, arith, inl, inr}
+use Rattle.std.proofs.Common.{◌≡◌, ℕ, zero, suc, get_or, slice_set, ◌+◌, ◌<◌, ◌≤◌, List, [], ◌∷◌, ◌++◌, length, map, IfSome, IfNone, refl, ap, ap₂, ◌∙◌, subst, arith, inl, inr}
 use Rattle.std.specs.Prelude.{Option, Some, None}
-use Rattle.std.proofs.lemmas.List.{get_or_push, length_push}
+use Rattle.std.proofs.lemmas.List.{get_or_push, length-map, length_push}
 use Rattle.kc_tally.specs.declared.row.Row.{Row}
 use Rattle.kc_tally.specs.Tally.{row_of, AreOrderedRows}
 use Rattle.kc_combine.specs.declared.ahead.Ahead.{Ahead}
 use Rattle.kc_combine.specs.declared.gives_rows.GivesRows.{Ghosts}
 use Rattle.kc_combine.specs.Combined.{TakesRow, TakeRows}
 use Rattle.kc_combine.specs.Whences.{Whence}
-use Rattle.kc_combine.specs.Aheads.{BeginAt, BeginTo, BeginsAt, FailsAt, HasTaken, HaveTaken, HaveTakenTo, heads_of, whences_of}
+use Rattle.kc_combine.specs.Aheads.{BeginAt, BeginTo, BeginsAt, FailsAt, HadCountsTo, HasTaken, HaveTaken, HaveTakenTo, count_at, heads_of, whences_of}
 
 -- the last of rows in order has a count
-last_present : (bound : ℕ) (rows : List Row) (row : Row) → AreOrderedRows bound (rows ++ row ∷ []) → 1 ≤ row.count
+pub last_present : (bound : ℕ) (rows : List Row) (row : Row) → AreOrderedRows bound (rows ++ row ∷ []) → 1 ≤ row.count
 last_present bound rows row are =
     let long = length_push rows row in
     subst (λ (r : Row). 1 ≤ r.count) (get_or_push rows row row (length rows) refl) (are.present (length rows) row (omega (arith, long)))
@@ -77,6 +77,49 @@ module _ {R F : Type 0} {G : Ghosts R F} (Gave Whole : R → List Row → Type 0
   taken_all (suc i) (ahead ∷ aheads) (before ∷ befores) (after ∷ afters) (c ∷ counts) so_far h alike =
       let rest = taken_all i aheads befores afters counts so_far.2 (omega (arith, h)) (omega (arith, alike)) in
       (after ∷ rest.0, (so_far.0, rest.1), (so_far.1, rest.2))
+
+-- ---- their counts
+
+pub heads_long : {R F : Type 0} {G : Ghosts R F} (aheads : List (Ahead R F G)) → length (heads_of aheads) ≡ length aheads
+heads_long aheads = length-map aheads (λ ahead. ahead.head)
+
+module _ (word : ℕ) where
+  counted_next : {R F : Type 0} {G : Ghosts R F} (i : ℕ) (olds : List (Option Row)) (aheads : List (Ahead R F G)) (counts : List ℕ)
+      (old new : Ahead R F G) (count : ℕ)
+      → HadCountsTo i word olds (heads_of aheads) counts → i < length aheads → length counts ≡ length aheads
+      → count ≡ count_at word (get_or aheads i old).head
+      → HadCountsTo (suc i) word olds (heads_of (slice_set aheads i new)) (slice_set counts i count)
+  counted_next zero olds [] counts old new count so_far h alike is = absurd (omega (arith, h))
+  counted_next zero [] (ahead ∷ aheads) counts old new count so_far h alike is = absurd cc
+  counted_next zero (head ∷ olds) (ahead ∷ aheads) [] old new count so_far h alike is = absurd (omega (arith, alike))
+  counted_next zero (head ∷ olds) (ahead ∷ aheads) (c ∷ counts) old new count so_far h alike is =
+      (is ∙ ap (count_at word) (let same : ahead.head ≡ head = cc in same), cc)
+  counted_next (suc i) olds [] counts old new count so_far h alike is = absurd (omega (arith, h))
+  counted_next (suc i) [] (ahead ∷ aheads) counts old new count so_far h alike is = absurd so_far
+  counted_next (suc i) (head ∷ olds) (ahead ∷ aheads) [] old new count so_far h alike is = absurd so_far
+  counted_next (suc i) (head ∷ olds) (ahead ∷ aheads) (c ∷ counts) old new count so_far h alike is =
+      (so_far.0, counted_next i olds aheads counts old new count so_far.1 (omega (arith, h)) (omega (arith, alike)) is)
+
+  pub counted_more : {R F : Type 0} {G : Ghosts R F} (i : ℕ) (olds : List (Option Row)) (aheads : List (Ahead R F G)) (counts : List ℕ)
+      (old new : Ahead R F G) (count : ℕ)
+      → HadCountsTo i word olds (heads_of aheads) counts → i < length aheads → length counts ≡ length aheads
+      → count ≡ count_at word (get_or aheads i old).head
+      → HadCountsTo (i + 1) word olds (heads_of (slice_set aheads i new)) (slice_set counts i count)
+  counted_more i olds aheads counts old new count so_far h alike is =
+      subst (λ n. HadCountsTo n word olds (heads_of (slice_set aheads i new)) (slice_set counts i count))
+      (let one : suc i ≡ i + 1 = omega arith in one) (counted_next i olds aheads counts old new count so_far h alike is)
+
+  pub counted_all : (i : ℕ) (olds news : List (Option Row)) (counts : List ℕ) → HadCountsTo i word olds news counts
+      → length news ≤ i → length counts ≡ length news → counts ≡ map (count_at word) olds
+  counted_all zero [] [] [] so_far h alike = refl
+  counted_all zero [] [] (c ∷ counts) so_far h alike = absurd (omega (arith, alike))
+  counted_all zero (old ∷ olds) [] counts so_far h alike = absurd cc
+  counted_all zero olds (new ∷ news) counts so_far h alike = absurd (omega (arith, h))
+  counted_all (suc i) [] news counts so_far h alike = absurd so_far
+  counted_all (suc i) (old ∷ olds) [] counts so_far h alike = absurd so_far
+  counted_all (suc i) (old ∷ olds) (new ∷ news) [] so_far h alike = absurd so_far
+  counted_all (suc i) (old ∷ olds) (new ∷ news) (c ∷ counts) so_far h alike =
+      ap₂ (λ d ds. d ∷ ds) so_far.0 (counted_all i olds news counts so_far.1 (omega (arith, h)) (omega (arith, alike)))
 
 -- ---- the fault of a table
 

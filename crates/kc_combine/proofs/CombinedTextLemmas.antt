@@ -225,7 +225,7 @@ no_header_of combining headers report.Memory h = absurd h
 -- ---- the tables that were read
 
 -- tables with these headers and rows
-abbrev tables_of : List Opening → List (List Row) → List TableSeen
+abbrev pub tables_of : List Opening → List (List Row) → List TableSeen
 tables_of [] rows = []
 tables_of (opening ∷ openings) [] = []
 tables_of (opening ∷ openings) (rows ∷ tables) =
@@ -252,7 +252,7 @@ module _ {S F : Type 0} {G : Ghosts (OpenTable S) F} (seen : S → Seen) (limit 
       subst (λ (X : Type 0). X)
       (λ i. GivesTable (start i) (seen after.reading.source) (most i) (record { k = k i; both = both i; rows = rows }, origin i)) gave
 
-  give_tables : (place : ℕ) (olds sources : List S) (openings : List Opening) (aheads afters : List (Ahead (OpenTable S) F G))
+  pub give_tables : (place : ℕ) (olds sources : List S) (openings : List Opening) (aheads afters : List (Ahead (OpenTable S) F G))
       (tables : List (List Row)) → AreOpened seen limit olds sources openings → AreJoined limit place sources openings aheads
       → whences_of whence_of afters ≡ whences_of whence_of aheads → AreWhole (GaveAll seen) afters tables
       → GiveTables limit (map seen olds) (map seen (map source_of afters)) (tables_of openings tables)
@@ -275,21 +275,21 @@ module _ {S F : Type 0} {G : Ghosts (OpenTable S) F} (seen : S → Seen) (limit 
   )
 
   -- there are as many tables as sources
-  whole_long : (afters : List (Ahead (OpenTable S) F G)) (tables : List (List Row)) → AreWhole (GaveAll seen) afters tables
+  pub whole_long : (afters : List (Ahead (OpenTable S) F G)) (tables : List (List Row)) → AreWhole (GaveAll seen) afters tables
       → length tables ≡ length afters
   whole_long [] [] whole = refl
   whole_long [] (rows ∷ tables) whole = absurd whole
   whole_long (after ∷ afters) [] whole = absurd whole
   whole_long (after ∷ afters) (rows ∷ tables) whole = let rest = whole_long afters tables whole.1 in omega (arith, rest)
 
-headers_of_tables : (openings : List Opening) (tables : List (List Row)) → length tables ≡ length openings
+pub headers_of_tables : (openings : List Opening) (tables : List (List Row)) → length tables ≡ length openings
     → map header_seen (tables_of openings tables) ≡ map header_of openings
 headers_of_tables [] tables long = refl
 headers_of_tables (opening ∷ openings) [] long = absurd (omega (arith, long))
 headers_of_tables (opening ∷ openings) (rows ∷ tables) long =
     ap (λ (headers : List Header). header_of opening ∷ headers) (headers_of_tables openings tables (omega (arith, long)))
 
-rows_of_tables : (openings : List Opening) (tables : List (List Row)) → length tables ≡ length openings
+pub rows_of_tables : (openings : List Opening) (tables : List (List Row)) → length tables ≡ length openings
     → map (λ (table : TableSeen). table.0.rows) (tables_of openings tables) ≡ tables
 rows_of_tables [] [] long = refl
 rows_of_tables [] (rows ∷ tables) long = absurd (omega (arith, long))
@@ -480,7 +480,7 @@ module _ {S F : Type 0} {G : Ghosts (OpenTable S) F} (seen : S → Seen) (limit 
 
 module _ {S : Type 0} {G : Ghosts (OpenTable S) PlacedFault} (seen : S → Seen) (limit : ℕ) where
   -- one of the tables has this fault, with its place
-  fails_one : (place : ℕ) (olds sources : List S) (openings : List Opening) (aheads afters : List (Ahead (OpenTable S) PlacedFault G))
+  pub fails_one : (place : ℕ) (olds sources : List S) (openings : List Opening) (aheads afters : List (Ahead (OpenTable S) PlacedFault G))
       (tables : List (List Row)) (fault : PlacedFault) → AreOpened seen limit olds sources openings
       → AreJoined limit place sources openings aheads → whences_of whence_of afters ≡ whences_of whence_of aheads
       → FailsAt (Fails seen) afters tables fault

@@ -12,3 +12,9 @@ pub mod CombinedHeaderLemmas
 pub mod CombinedTextLemmas
 pub mod JudgedTextLemmas
 pub mod LoadedTableLemmas
+pub mod ViewLemmas
+pub mod ComparedLemmas
+pub mod SpectrumLemmas
+pub mod WordWalkLemmas
+pub mod VisitedTextLemmas
+pub mod DerivedLemmas

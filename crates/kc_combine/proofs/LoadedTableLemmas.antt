@@ -241,7 +241,7 @@ module _ {F : Type 0} {G : Ghosts KeptStand F} where
       )
 
   -- those of whole tables are their rows
-  whole_rows : (tables : List TableSeen) (aheads afters : List (Ahead KeptStand F G)) → AreBegun tables aheads
+  pub whole_rows : (tables : List TableSeen) (aheads afters : List (Ahead KeptStand F G)) → AreBegun tables aheads
       → whences_of whence_of_kept afters ≡ whences_of whence_of_kept aheads → (taken : List (List Row))
       → AreWhole HasGivenAll afters taken → taken ≡ map (λ table. table.0.rows) tables
   whole_rows [] [] [] begun same [] whole = refl
@@ -337,7 +337,7 @@ module _ {F : Type 0} {G : Ghosts KeptStand F} where
   }
 
 module _ {G : Ghosts KeptStand PlacedFault} where
-  no_failure : (aheads : List (Ahead KeptStand PlacedFault G)) (tables : List (List Row)) (fault : PlacedFault)
+  pub no_failure : (aheads : List (Ahead KeptStand PlacedFault G)) (tables : List (List Row)) (fault : PlacedFault)
       → FailsAt (λ stand rows fault. ⊥) aheads tables fault → ⊥
   no_failure [] [] fault fails = fails
   no_failure [] (rows ∷ tables) fault fails = fails

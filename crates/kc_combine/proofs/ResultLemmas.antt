@@ -129,11 +129,11 @@ makes_rows k both rule tables rows nothing are is small = record {
 -- ---- how much is counted
 
 -- the sum of what is at the numbers below n
-sum_to : ℕ → (ℕ → ℕ) → ℕ
+unfoldable pub sum_to : ℕ → (ℕ → ℕ) → ℕ
 sum_to zero f = 0
 sum_to (suc n) f = sum_to n f + f n
 
-sum_to_same : (n : ℕ) (f g : ℕ → ℕ) → ((m : ℕ) → m < n → f m ≡ g m) → sum_to n f ≡ sum_to n g
+pub sum_to_same : (n : ℕ) (f g : ℕ → ℕ) → ((m : ℕ) → m < n → f m ≡ g m) → sum_to n f ≡ sum_to n g
 unfolding sum_to
 sum_to_same zero f g same = refl
 sum_to_same (suc n) f g same = ap₂ (λ a b. a + b) (sum_to_same n f g (λ m h. same m (omega (arith, h)))) (same n (omega arith))
@@ -145,66 +145,76 @@ sum_to_most (suc n) f g most =
     let rest = sum_to_most n f g (λ m h. most m (omega (arith, h))) in
     let here = most n (omega arith) in omega (arith, rest, here)
 
-sum_to_none : (n : ℕ) → sum_to n (λ m. 0) ≡ 0
+sum_to_none : (n : ℕ) (f : ℕ → ℕ) → ((m : ℕ) → f m ≡ 0) → sum_to n f ≡ 0
 unfolding sum_to
-sum_to_none zero = refl
-sum_to_none (suc n) = let rest = sum_to_none n in omega (arith, rest)
+sum_to_none zero f none = refl
+sum_to_none (suc n) f none = let rest = sum_to_none n f none in let here = none n in omega (arith, rest, here)
 
 sum_to_both : (n : ℕ) (f g : ℕ → ℕ) → sum_to n (λ m. f m + g m) ≡ sum_to n f + sum_to n g
 unfolding sum_to
 sum_to_both zero f g = refl
 sum_to_both (suc n) f g = let rest = sum_to_both n f g in omega (arith, rest)
 
--- of one word alone
-sum_to_before : (n word count : ℕ) → n ≤ word → sum_to n (λ m. count_of (row_of word count ∷ []) m) ≡ 0
+-- of one word alone, by a weight of its count
+weight_before : (weigh : ℕ → ℕ) (n word count : ℕ) → weigh 0 ≡ 0 → n ≤ word
+    → sum_to n (λ m. weigh (count_of (row_of word count ∷ []) m)) ≡ 0
 unfolding sum_to
-sum_to_before zero word count h = refl
-sum_to_before (suc n) word count h =
-    let rest = sum_to_before n word count (omega (arith, h)) in
-    let here = count_of-past (row_of word count) [] n (λ e. omega (arith, e, h)) in
+weight_before weigh zero word count nothing h = refl
+weight_before weigh (suc n) word count nothing h =
+    let rest = weight_before weigh n word count nothing (omega (arith, h)) in
+    let here = ap weigh (count_of-past (row_of word count) [] n (λ e. omega (arith, e, h))) ∙ nothing in
     omega (arith, rest, here)
 
-sum_to_one : (n word count : ℕ) → word < n → sum_to n (λ m. count_of (row_of word count ∷ []) m) ≡ count
+weight_of_one : (weigh : ℕ → ℕ) (n word count : ℕ) → weigh 0 ≡ 0 → word < n
+    → sum_to n (λ m. weigh (count_of (row_of word count ∷ []) m)) ≡ weigh count
 unfolding sum_to
-sum_to_one zero word count h = absurd (omega (arith, h))
-sum_to_one (suc n) word count h = ⊎_elim
-    (λ (e : word ≡ n). let rest = sum_to_before n word count (omega (arith, e)) in
-    let here = count_of-here (row_of word count) [] n e in omega (arith, rest, here))
-    (λ (ne : word ≡ n → ⊥). let rest = sum_to_one n word count (omega (arith, h, ne)) in
-    let here = count_of-past (row_of word count) [] n ne in omega (arith, rest, here))
+weight_of_one weigh zero word count nothing h = absurd (omega (arith, h))
+weight_of_one weigh (suc n) word count nothing h = ⊎_elim
+    (λ (e : word ≡ n). let rest = weight_before weigh n word count nothing (omega (arith, e)) in
+    let here = ap weigh (count_of-here (row_of word count) [] n e) in omega (arith, rest, here))
+    (λ (ne : word ≡ n → ⊥). let rest = weight_of_one weigh n word count nothing (omega (arith, h, ne)) in
+    let here = ap weigh (count_of-past (row_of word count) [] n ne) ∙ nothing in omega (arith, rest, here))
     (cases_eq word n)
 
 -- the first row, and the others
-apart : (row : Row) (rows : List Row) (m : ℕ) → count_of rows row.word ≡ 0
-    → count_of (row ∷ rows) m ≡ count_of (row_of row.word row.count ∷ []) m + count_of rows m
-apart row rows m none = ⊎_elim
-    (λ (e : row.word ≡ m). let whole = count_of-here row rows m e in
-    let one = count_of-here (row_of row.word row.count) [] m e in
-    let gone = ap (count_of rows) (sym e) ∙ none in omega (arith, whole, one, gone))
-    (λ (ne : row.word ≡ m → ⊥). let whole = count_of-past row rows m ne in
-    let one = count_of-past (row_of row.word row.count) [] m ne in omega (arith, whole, one))
+apart : (weigh : ℕ → ℕ) (row : Row) (rows : List Row) (m : ℕ) → weigh 0 ≡ 0 → count_of rows row.word ≡ 0
+    → weigh (count_of (row ∷ rows) m) ≡ weigh (count_of (row_of row.word row.count ∷ []) m) + weigh (count_of rows m)
+apart weigh row rows m nothing none = ⊎_elim
+    (λ (e : row.word ≡ m). let whole = ap weigh (count_of-here row rows m e) in
+    let one = ap weigh (count_of-here (row_of row.word row.count) [] m e) in
+    let gone = ap weigh (ap (count_of rows) (sym e) ∙ none) ∙ nothing in omega (arith, whole, one, gone))
+    (λ (ne : row.word ≡ m → ⊥). let whole = ap weigh (count_of-past row rows m ne) in
+    let one = ap weigh (count_of-past (row_of row.word row.count) [] m ne) ∙ nothing in omega (arith, whole, one))
     (cases_eq row.word m)
 
--- the counts of rows in order are those of all words together
-total_by_words : (low bound : ℕ) (rows : List Row) → RiseWithin low bound rows → total_of rows ≡ sum_to bound (count_of rows)
-total_by_words low bound [] rise = sym (sum_to_none bound)
-total_by_words low bound (row ∷ rows) rise =
+-- the weights of the counts of rows in order are those of all words together
+weight_by_words : (weigh : ℕ → ℕ) (low bound : ℕ) (rows : List Row) → weigh 0 ≡ 0 → RiseWithin low bound rows
+    → sum_by (λ row. weigh row.count) rows ≡ sum_to bound (λ m. weigh (count_of rows m))
+weight_by_words weigh low bound [] nothing rise = sym (sum_to_none bound (λ m. weigh 0) (λ m. nothing))
+weight_by_words weigh low bound (row ∷ rows) nothing rise =
     let later = RiseWithin-rest low bound row rows rise in
     let none = count_of-low (suc row.word) rows row.word later.rises (omega arith) in
-    let rest = total_by_words (suc row.word) bound rows later in
-    let whole = sum_by-cons (λ (row : Row). row.count) row rows in
-    let split = sum_to_same bound (count_of (row ∷ rows)) (λ m. count_of (row_of row.word row.count ∷ []) m + count_of rows m)
-    (λ m h. apart row rows m none) in
-    let both = sum_to_both bound (λ m. count_of (row_of row.word row.count ∷ []) m) (count_of rows) in
-    let one = sum_to_one bound row.word row.count (rise.below zero row (omega arith)) in
+    let rest = weight_by_words weigh (suc row.word) bound rows nothing later in
+    let whole = sum_by-cons (λ (row : Row). weigh row.count) row rows in
+    let alone = λ (m : ℕ). weigh (count_of (row_of row.word row.count ∷ []) m) in
+    let others = λ (m : ℕ). weigh (count_of rows m) in
+    let split = sum_to_same bound (λ m. weigh (count_of (row ∷ rows) m)) (λ m. alone m + others m)
+    (λ m h. apart weigh row rows m nothing none) in
+    let both = sum_to_both bound alone others in
+    let one = weight_of_one weigh bound row.word row.count nothing (rise.below zero row (omega arith)) in
     omega (arith, rest, whole, split, both, one)
 
-ordered_total : (bound : ℕ) (rows : List Row) → AreOrderedRows bound rows → total_of rows ≡ sum_to bound (count_of rows)
-ordered_total bound rows are = total_by_words 0 bound rows (ordered-RiseWithin bound rows are)
+pub ordered_weight : (weigh : ℕ → ℕ) (bound : ℕ) (rows : List Row) → weigh 0 ≡ 0 → AreOrderedRows bound rows
+    → sum_by (λ row. weigh row.count) rows ≡ sum_to bound (λ m. weigh (count_of rows m))
+ordered_weight weigh bound rows nothing are = weight_by_words weigh 0 bound rows nothing (ordered-RiseWithin bound rows are)
+
+-- the counts themselves
+pub ordered_total : (bound : ℕ) (rows : List Row) → AreOrderedRows bound rows → total_of rows ≡ sum_to bound (count_of rows)
+ordered_total bound rows are = ordered_weight (λ count. count) bound rows refl are
 
 totals_by_words : (bound : ℕ) (tables : List (List Row)) → All (λ table. AreOrderedRows bound table) tables
     → sum_by total_of tables ≡ sum_to bound (λ n. sum_of (counts_in tables n))
-totals_by_words bound [] are = sym (sum_to_none bound)
+totals_by_words bound [] are = sym (sum_to_none bound (λ n. 0) (λ n. refl))
 totals_by_words bound (table ∷ tables) are =
     let here = ordered_total bound table (are zero table (omega arith)) in
     let rest = totals_by_words bound tables (λ i d h. are (suc i) d (omega (arith, h))) in

@@ -21,12 +21,12 @@ use Rattle.kc_combine.proofs.WalkLemmas.{first-length, other-lengths}
 
 -- ---- before the first row
 
-begin_zero : (heads : List (Option Row)) → BeginAt 0 heads
+pub begin_zero : (heads : List (Option Row)) → BeginAt 0 heads
 begin_zero [] = tt
 begin_zero (None ∷ heads) = (tt, begin_zero heads)
 begin_zero (Some row ∷ heads) = (zero-le, begin_zero heads)
 
-none_ordered : {R F : Type 0} {G : Ghosts R F} (aheads : List (Ahead R F G)) → All (λ table. AreOrderedRows 0 table) (no_rows aheads)
+pub none_ordered : {R F : Type 0} {G : Ghosts R F} (aheads : List (Ahead R F G)) → All (λ table. AreOrderedRows 0 table) (no_rows aheads)
 none_ordered [] = All-nil _
 none_ordered (ahead ∷ aheads) = all-of [] (no_rows aheads)
     (record { rising = λ k h. absurd (omega (arith, h)); words = All-nil _; present = All-nil _ }) (none_ordered aheads)
@@ -42,7 +42,7 @@ walks_from_start Gave Whole rule aheads start = record {
 -- ---- after the last row
 
 -- whole tables have words of their length
-whole_words : {R F : Type 0} {G : Ghosts R F} (Whole : R → List Row → Type 0) (whence : R → Whence) (k : ℕ)
+pub whole_words : {R F : Type 0} {G : Ghosts R F} (Whole : R → List Row → Type 0) (whence : R → Whence) (k : ℕ)
     → ((reading : R) (rows : List Row) → Whole reading rows → AreOrderedRows (4 ^ (whence reading).k) rows)
     → (aheads : List (Ahead R F G)) (tables : List (List Row)) → HaveLength whence k aheads → AreWhole Whole aheads tables
     → All (λ table. AreOrderedRows (4 ^ k) table) tables

@@ -1,7 +1,7 @@
 -- Tables that are read row by row, each with its next row already read.
 -- Source: this project's own.
-use Rattle.std.specs.Prelude.{◌≡◌, ◌⊎◌, ℕ, zero, suc, ◌+◌, ◌≤◌, All, IfSome, List, map, [], ◌∷◌, ◌++◌, Option}
-use Rattle.std.specs.Prelude.{None, Some}
+use Rattle.std.specs.Prelude.{◌≡◌, ◌⊎◌, ℕ, zero, suc, ◌+◌, ◌≤◌, ◌==◌, All, IfSome, List, map, [], ◌∷◌, ◌++◌, Option}
+use Rattle.std.specs.Prelude.{None, Some, if◌then◌else◌}
 use Rattle.kc_tally.specs.declared.row.Row.{Row}
 use Rattle.kc_combine.specs.declared.ahead.Ahead.{Ahead}
 use Rattle.kc_combine.specs.declared.gives_rows.GivesRows.{Ghosts}
@@ -52,6 +52,18 @@ HasHead (head ∷ heads) row = (head ≡ Some row) ⊎ HasHead heads row
 abbrev pub word_of : Option Row → Option ℕ
 word_of None = None
 word_of (Some row) = Some row.word
+
+-- the count of this word in a row, 0 if it has another word or there is no row
+abbrev pub count_at : ℕ → Option Row → ℕ
+count_at word None = 0
+count_at word (Some row) = if row.word == word then row.count else 0
+
+-- the first i tables had these counts of the word in their next rows, and the other next rows are unchanged
+abbrev pub HadCountsTo : ℕ → ℕ → List (Option Row) → List (Option Row) → List ℕ → Type 0
+HadCountsTo zero word olds news counts = news ≡ olds
+HadCountsTo (suc i) word (old ∷ olds) (new ∷ news) (count ∷ counts) =
+    (count ≡ count_at word old) × HadCountsTo i word olds news counts
+HadCountsTo (suc i) word olds news counts = ⊥
 
 -- the least of this word and the words of these rows, if there is any
 abbrev pub least_from : Option ℕ → List (Option Row) → Option ℕ

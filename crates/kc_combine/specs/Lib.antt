@@ -14,3 +14,7 @@ pub mod CombinedTexts
 pub mod JudgedTexts
 pub mod WrittenTables
 pub mod LoadedTables
+pub mod Compared
+pub mod CopySpectra
+pub mod VisitedTexts
+pub mod Derivations

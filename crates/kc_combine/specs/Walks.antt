@@ -1,11 +1,14 @@
 -- Several tables, combined word by word.
 -- Source: this project's own.
-use Rattle.std.specs.Prelude.{◌≡◌, ℕ, ◌-◌, ◌^◌, List, [], ◌∷◌, ◌++◌, Option, None, Some}
+use Rattle.std.specs.Prelude.{◌≡◌, ℕ, ◌-◌, ◌^◌, All, List, [], ◌∷◌, ◌++◌, Option, None, Some}
 use Rattle.kc_tally.specs.declared.row.Row.{Row}
+use Rattle.kc_tally.specs.Tally.{AreOrderedRows}
 use Rattle.kc_combine.specs.declared.ahead.Ahead.{Ahead}
 use Rattle.kc_combine.specs.declared.gives_rows.GivesRows.{Ghosts}
-use Rattle.kc_combine.specs.Aheads.{BeginAt, FailsAt, HaveTaken, heads_of, least_from}
+use Rattle.kc_combine.specs.Aheads.{AreWhole, BeginAt, FailsAt, HaveLength, HaveTaken, heads_of, least_from}
 use Rattle.kc_combine.specs.Combined.{AreCombinedBelow, IsTooLarge}
+use Rattle.kc_combine.specs.Compared.{counts_below, counts_of_words}
+use Rattle.kc_combine.specs.Whences.{Whence}
 use Rattle.kc_combine.specs.declared.table_walk.WalkFault.{WalkFault}
 use Rattle.kc_combine.specs.declared.table_walk.WalkFault.TheVariants.{Table, TooLarge}
 
@@ -37,3 +40,22 @@ StopsAt Gave Whole Fails rule aheads rows TooLarge = (tables : List (List Row))
 abbrev pub left_from : Option ℕ → ℕ
 left_from None = 0
 left_from (Some word) = 2 ^ 62 - word
+
+-- ---- words that are visited
+
+-- The rows below the bound were taken from the tables, and their words were visited. `Visited` holds for the counts of
+-- the words that were visited, in order.
+pub record IsVisiting {R F : Type 0} {G : Ghosts R F} (Gave Whole : R → List Row → Type 0)
+    (Visited : List (List ℕ) → Type 0) (bound : ℕ) (tables : List (List Row))
+    (aheads : List (Ahead R F G)) : Type 0 where
+  pub taken : HaveTaken Gave Whole aheads tables
+  pub begin : BeginAt bound (heads_of aheads)
+  pub given : All (λ table. AreOrderedRows bound table) tables
+  pub visited : Visited (counts_below bound tables)
+
+-- all rows of the tables were taken, and all words of the length that their words have were visited
+pub record HaveVisited {R F : Type 0} {G : Ghosts R F} (Whole : R → List Row → Type 0) (whence : R → Whence)
+    (Visited : List (List ℕ) → Type 0) (before now : List (Ahead R F G)) : Type 0 where
+  pub tables : List (List Row)
+  pub whole : AreWhole Whole now tables
+  pub visited : (k : ℕ) → HaveLength whence k before → Visited (counts_of_words k tables)

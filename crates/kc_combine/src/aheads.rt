@@ -1,10 +1,10 @@
 //! Tables that are read row by row, each with its next row already read.
 ghost use Rattle.std.specs.Prelude.{◌≡◌, ◌≢◌, ◌+◌, ◌^◌, ◌<◌, ◌≤◌, ◌++◌, ◌∷◌, [], List, ℕ, None, Some};
-ghost use Rattle.std.specs.Prelude.{IfErr, IfNone, IfOk, IfSome, OnOk, length};
+ghost use Rattle.std.specs.Prelude.{IfErr, IfNone, IfOk, IfSome, OnOk, length, map};
 ghost use Rattle.kc_tally.specs.declared.row.Row.{Row};
 ghost use Rattle.kc_combine.specs.Combined.{TakesRow, TakeRows};
-ghost use Rattle.kc_combine.specs.Aheads.{BeginAt, BeginsAt, FailsAt, HasTaken, HaveTaken, heads_of, least_from};
-ghost use Rattle.kc_combine.specs.Aheads.{whences_of, word_of};
+ghost use Rattle.kc_combine.specs.Aheads.{BeginAt, BeginsAt, FailsAt, HasTaken, HaveTaken, count_at, heads_of};
+ghost use Rattle.kc_combine.specs.Aheads.{least_from, whences_of, word_of};
 ghost use Rattle.kc_tally.specs.Sum.{lesser};
 
 use crate::ahead::Ahead;
@@ -42,6 +42,7 @@ impl<R: GivesRows + Drop> Ahead<R> {
     /// # Errors
     /// The fault after that row.
     pub fn take(&mut self, word: u64) -> Result<u64, R::Fault>
+        ensures count { IfOk result (λ count. count ≡ count_at word self.old.head) }
         ensures rises { BeginsAt word self.old.head → OnOk result (BeginsAt (word + 1) self.new.head) }
         ensures taken { (rows : List Row) → HasTaken R.gave R.gave_all self.old.reading self.old.head rows
             → IfOk result (λ count. (after : List Row) × TakesRow rows after word count
@@ -95,6 +96,7 @@ pub(crate) fn take_word<R: GivesRows + Drop>(
     requires { length counts.old ≡ length aheads.old }
     ensures long { length aheads.new ≡ length aheads.old }
     ensures alike { length counts.new ≡ length counts.old }
+    ensures counts { OnOk result (counts.new ≡ map (count_at word) (heads_of aheads.old)) }
     ensures rise { BeginAt word (heads_of aheads.old) → OnOk result (BeginAt (word + 1) (heads_of aheads.new)) }
     ensures taken { (tables : List (List Row)) → HaveTaken R.gave R.gave_all aheads.old tables
         → OnOk result ((after : List (List Row)) × TakeRows tables after word counts.new

@@ -53,7 +53,7 @@ pub fn combine_texts<S: Source + Drop, W: Sink>(
 }
 
 // Reads the header and the first row of each table.
-fn open_each<S: Source>(
+pub(crate) fn open_each<S: Source>(
     alloc: Global,
     sources: &mut [S],
     limit: u64,
@@ -77,7 +77,7 @@ fn open_each<S: Source>(
 }
 
 // The header of the combination of these tables.
-fn header_of_all(
+pub(crate) fn header_of_all(
     alloc: Global,
     combining: Combining,
     openings: &[Opening],
@@ -108,7 +108,7 @@ pub(crate) fn header_fault(fault: ReportFault) -> CombineFault<PlacedFault>
 }
 
 // The tables with their sources. Conditions: there is a source for each table, and room for all.
-fn with_sources<S: Source + Drop>(
+pub(crate) fn with_sources<S: Source + Drop>(
     mut room: Vec<Ahead<OpenTable<S>>>,
     sources: Vec<S>,
     openings: Vec<Opening>,
@@ -131,7 +131,7 @@ fn with_sources<S: Source + Drop>(
 }
 
 // Puts the sources of the tables back, in order. Condition: there is room.
-fn put_back<S: Source + Drop>(sources: &mut Vec<S>, aheads: Vec<Ahead<OpenTable<S>>>)
+pub(crate) fn put_back<S: Source + Drop>(sources: &mut Vec<S>, aheads: Vec<Ahead<OpenTable<S>>>)
     requires empty { sources.old.items ≡ [] }
     requires room { length aheads.items ≤ vec_capacity sources.old }
     ensures { sources.new.items ≡ map source_of aheads.items }

@@ -1,6 +1,7 @@
 //! What rules compute from the counts of one word.
 ghost use Rattle.std.specs.Prelude.{◌≡◌, ◌^◌, ◌<◌, ◌≤◌, ◌-◌, IfSome, IfNone};
 ghost use Rattle.kc_combine.specs.Combined.{all_have, first_of, greatest_of, least_of, none_has, sum_of};
+ghost use Rattle.kc_combine.specs.Compared.{in_assembly};
 
 /// The greatest count.
 pub(crate) const MAX_COUNT: u64 = 1 << 62;
@@ -41,6 +42,16 @@ pub(crate) fn first_count(counts: &[u64]) -> u64
         Some(count) => *count,
         None => 0,
     }
+}
+
+// The second of these counts, or 0 if there are fewer.
+pub(crate) fn second_count(counts: &[u64]) -> u64
+    ensures { result ≡ in_assembly counts.now }
+{
+    let Some((_, others)) = counts.split_first() else {
+        return 0;
+    };
+    first_count(others)
 }
 
 // The least of these counts, or 0 if there is none.

@@ -4,6 +4,9 @@
 //! A rule makes one count of the counts that a word has in the tables, 0 for each table that lacks it. A word with the
 //! result 0 is left out.
 //!
+//! `Comparing` and `CopySpectrum` visit the words of two tables, one of reads and one of an assembly, and count them;
+//! `write_comparison` and `write_spectrum` write their numbers. `comparing_laws` has laws of these.
+//!
 //! ```ignore
 //! let rule = Within { least: 2, most: 4 };
 //! let kept = rule.count(&[*count]);
@@ -19,7 +22,14 @@ mod combines;
 mod combining;
 pub mod combining_laws;
 mod combining_rules;
+pub mod comparing_laws;
+mod comparison;
+mod comparison_text;
+mod copy_spectrum;
 mod counts_of_word;
+mod derived;
+mod derived_tables;
+mod derived_texts;
 mod gives_rows;
 mod judged_texts;
 mod kept_table;
@@ -27,7 +37,12 @@ mod loaded_tables;
 mod open_table;
 mod opening;
 mod placed_fault;
+mod spectrum_text;
 mod table_walk;
+mod visited_tables;
+mod visited_texts;
+mod visits_words;
+mod word_walk;
 mod written_tables;
 
 pub use ahead::Ahead;
@@ -37,6 +52,12 @@ pub use combined_texts::combine_texts;
 pub use combines::Combines;
 pub use combining::Combining;
 pub use combining_rules::{CountDifference, Difference, Intersection, Sum, Take, Within};
+pub use comparison::{Comparing, Comparison};
+pub use comparison_text::write_comparison;
+pub use copy_spectrum::{CopySpectrum, write_spectrum};
+pub use derived::Derived;
+pub use derived_tables::derive_from_tables;
+pub use derived_texts::derive_from_texts;
 pub use gives_rows::GivesRows;
 pub use judged_texts::judge_texts;
 pub use kept_table::KeptTable;
@@ -45,4 +66,7 @@ pub use open_table::OpenTable;
 pub use opening::Opening;
 pub use placed_fault::PlacedFault;
 pub use table_walk::{WalkFault, next_row};
+pub use visited_tables::visit_tables;
+pub use visited_texts::visit_texts;
+pub use visits_words::VisitsWords;
 pub use written_tables::{CombineFault, Totals, write_combined};

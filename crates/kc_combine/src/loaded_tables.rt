@@ -1,5 +1,5 @@
 //! Tables in memory that are combined.
-ghost use Rattle.std.specs.Prelude.{◌≡◌, ◌≤◌, All, IfErr, IfOk, length, map};
+ghost use Rattle.std.specs.Prelude.{◌≡◌, ◌^◌, ◌≤◌, All, IfErr, IfOk, length, map};
 ghost use Rattle.kc_report.specs.Table.{MaySay};
 ghost use Rattle.kc_combine.specs.CombinedTexts.{CombinesTables, HasHeaderOf, header_seen};
 ghost use Rattle.kc_combine.specs.JudgedTexts.{FitsInto, total_of_all};
@@ -46,6 +46,7 @@ pub fn combine_tables<W: Sink>(
     ensures combined { IfOk result (CombinesTables combining (map table_seen tables.now) (W.seen writer.old)
         (W.seen writer.new)) }
     ensures few { IfOk result (λ totals. FitsInto combining (total_of_all (map table_seen tables.now))) }
+    ensures most { IfOk result (λ totals. totals.total ≤ 2 ^ 62) }
     ensures fault { IfErr result (CombinesNoTables combining (map table_seen tables.now) (W.seen writer.old)
         (W.seen writer.new)) }
 {
@@ -55,7 +56,7 @@ pub fn combine_tables<W: Sink>(
 }
 
 // The header of the combination of these tables.
-fn header_of_loaded(
+pub(crate) fn header_of_loaded(
     alloc: Global,
     combining: Combining,
     tables: &[LoadedTable],
@@ -83,7 +84,7 @@ fn header_of_loaded(
 }
 
 // Each of these tables, with its first row already read.
-fn begin_each<'a>(
+pub(crate) fn begin_each<'a>(
     alloc: Global,
     tables: &'a [LoadedTable],
 ) -> Result<Vec<Ahead<KeptTable<'a>>>, AllocError>

@@ -92,7 +92,7 @@ pub fn write_combined<R: GivesRows + Drop, C: Combines, W: Sink>(
 }
 
 // A place for a count of each table.
-fn zero_counts(alloc: Global, tables: usize) -> Result<Vec<u64>, AllocError>
+pub(crate) fn zero_counts(alloc: Global, tables: usize) -> Result<Vec<u64>, AllocError>
     ensures { IfOk result (λ counts. length counts.items ≡ tables) }
 {
     vec![in alloc; 0; tables]

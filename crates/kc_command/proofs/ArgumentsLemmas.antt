@@ -4,11 +4,11 @@ use Rattle.std.proofs.Common.{sym, subst, arith, lit≤}
 use Rattle.std.specs.Prelude.{◌==◌, ◌||◌, ◌∷◌, ◌++◌, [], if◌then◌else◌, is_none, unwrap_or}
 use Rattle.std.specs.Option.{option_and_then}
 use Rattle.std.proofs.lemmas.Bool.Decides.{nat_tests}
-use Rattle.clap.specs.Words.{Row, Text, first_of}
-use Rattle.kc_command.specs.Arguments.{Judged, as_stripes, batch_of, first_bad, first_bad_of_counting, first_bad_of_dump}
-use Rattle.kc_command.specs.Arguments.{first_bad_of_histo, first_of_bad, floor_of}
-use Rattle.kc_command.specs.Arguments.{high_of, is_stripe_count, judged, lower_of, mer_len_of, or_default, print_of, size_of}
-use Rattle.kc_command.specs.Arguments.{stripes_of, threads_of, upper_of}
+use Rattle.clap.specs.Words.{Row, first_of}
+use Rattle.kc_command.specs.Arguments.{Judged, first_bad, first_bad_of_counting, first_bad_of_dump}
+use Rattle.kc_command.specs.Arguments.{first_bad_of_histo, first_of_bad, judged}
+use Rattle.kc_command.specs.Options.{as_stripes, batch_of, floor_of, high_of, is_stripe_count, lower_of, mer_len_of}
+use Rattle.kc_command.specs.Options.{or_default, print_of, size_of, stripes_of, threads_of, upper_of}
 use Rattle.kc_command.specs.Numbers.{number_between}
 use Rattle.kc_command.specs.Settings.{AreStripes}
 use Rattle.kc_command.specs.declared.option_name.OptionName.{OptionName}
@@ -39,7 +39,7 @@ are_stripes n is =
 
 -- the stripes that are asked for can be asked for
 pub asked_stripes : (rows : List Row) (n : ℕ) → stripes_of rows ≡ Some n → AreStripes n
-asked_stripes rows n e = given (first_of (codes "stripes") rows) e where
+asked_stripes rows n e = number (or_default 16 (number_between 1 64) (first_of (codes "stripes") rows)) e where
   tested : (m : ℕ) (b : Bool) → is_stripe_count m ≡ b → (if b then Some m else None) ≡ Some n → AreStripes n
   tested m true is e = subst AreStripes (some_same e) (are_stripes m is)
   tested m false is e = cc
@@ -47,11 +47,6 @@ asked_stripes rows n e = given (first_of (codes "stripes") rows) e where
   number : (o : Option ℕ) → option_and_then as_stripes o ≡ Some n → AreStripes n
   number None e = cc
   number (Some m) e = tested m (is_stripe_count m) refl e
-
-  given : (text : Option Text)
-      → or_default 16 (λ text. option_and_then as_stripes (number_between 1 64 text)) text ≡ Some n → AreStripes n
-  given None e = subst AreStripes (some_same e) (record { power = (4, refl); at_most = lit≤ tt })
-  given (Some text) e = number (number_between 1 64 text) e
 
 -- what is refused first of some values is refused first of those and more
 refused_before : (front rest : List Judged) (name : OptionName) → first_of_bad front ≡ Some name

@@ -22,8 +22,8 @@ use Rattle.clap.specs.Kinds.{Kinds, check_kinds, or_else}
 use Rattle.clap.specs.Faults.{check_fault, defaults_fault, entered_fault, fault_of, other_fault, settle_fault}
 use Rattle.clap.specs.Faults.{turn_fault, walk_fault}
 use Rattle.std.specs.List.{AllByRecursion}
-use Rattle.kc_command.specs.Command.{IsCommand, count_shape, dump_shape, filter_shape, histo_shape, intersect_shape}
-use Rattle.kc_command.specs.Command.{kcount_app, merge_shape, profile_shape, query_shape, select_shape, stats_shape}
+use Rattle.kc_command.specs.Command.{IsCommand, compare_shape, count_shape, dump_shape, filter_shape, histo_shape}
+use Rattle.kc_command.specs.Command.{intersect_shape, kcount_app, merge_shape, profile_shape, query_shape, select_shape, stats_shape}
 use Rattle.kc_command.specs.Command.{subtract_shape}
 
 -- a command with one argument more
@@ -218,6 +218,7 @@ commands =
     ∷ of_kcount intersect_shape
     ∷ of_kcount subtract_shape
     ∷ of_kcount filter_shape
+    ∷ of_kcount compare_shape
     ∷ of_kcount select_shape
     ∷ of_kcount profile_shape
     ∷ []
@@ -246,7 +247,10 @@ are_commands = (
                   inr (inr (inr (inr (inr (inr (inr (inr (inl refl)))))))),
                   (
                     inr (inr (inr (inr (inr (inr (inr (inr (inr (inl refl))))))))),
-                    (inr (inr (inr (inr (inr (inr (inr (inr (inr (inr refl))))))))), tt),
+                    (
+                      inr (inr (inr (inr (inr (inr (inr (inr (inr (inr (inl refl)))))))))),
+                      (inr (inr (inr (inr (inr (inr (inr (inr (inr (inr (inr refl)))))))))), tt),
+                    ),
                   ),
                 ),
               ),

@@ -1,140 +1,24 @@
--- The values that the options of a command ask for: source, the table of options in the README. A row is what `clap`
--- found for an option: its values and where they came from.
-use Rattle.std.specs.Prelude.{◌≡◌, ℕ, ◌^◌, ◌==◌, Bool, true, false, nat_le, nat_lt, ◌&&◌, List, [], ◌∷◌, codes}
-use Rattle.std.specs.Prelude.{if◌then◌else◌}
-use Rattle.std.specs.Prelude.{Option, Some, None, is_none, is_some, option_map, unwrap_or, length, Result, Ok, Err}
-use Rattle.std.specs.List.{list_any}
-use Rattle.std.specs.Option.{option_and_then, option_map_or}
+-- What the options and arguments of a command ask for together, which one is refused, and which conflict: source, the
+-- help of the commands. A row is what `clap` found for an option: its values and where they came from.
+use Rattle.std.specs.Prelude.{◌≡◌, ℕ, ◌==◌, Bool, true, false, nat_lt, ◌&&◌, List, [], ◌∷◌, codes, if◌then◌else◌}
+use Rattle.std.specs.Prelude.{Option, Some, None, is_none, is_some, option_map, unwrap_or, length}
+use Rattle.std.specs.Option.{option_map_or}
 use Rattle.std.specs.Str.{bytes_eq}
 use Rattle.clap.specs.Words.{Row, Text, all_of, first_of, one_of}
 use Rattle.kc_combine.specs.declared.combining.Combining.{Combining}
 use Rattle.kc_combine.specs.declared.combining.Combining.TheVariants as combining
-use Rattle.kc_combine.specs.declared.combining_rules.Take.{Take}
-use Rattle.kc_combine.specs.declared.combining_rules.Take.TheVariants as takes
 use Rattle.kc_report.specs.declared.dump.Dump.{Dump}
 use Rattle.kc_select.specs.Solid.{SelectionRule, profile_rule}
 use Rattle.kc_select.specs.declared.pair_rule.PairRule.{PairRule}
-use Rattle.kc_select.specs.declared.pair_rule.PairRule.TheVariants as asks
-use Rattle.kc_command.specs.Numbers.{number_between, scaled_between}
+use Rattle.kc_command.specs.Options.{batch_of, floor_of, high_of, keep_of, lower_of, max_count_of, mer_len_of}
+use Rattle.kc_command.specs.Options.{min_count_of, min_share_of, print_of, size_of, solid_of, stripes_of, take_of}
+use Rattle.kc_command.specs.Options.{threads_of, upper_of}
 use Rattle.kc_command.specs.Settings.{Settings, lowered}
+use Rattle.kc_command.specs.declared.comparison_options.CompareOptions.{CompareOptions}
 use Rattle.kc_command.specs.declared.option_name.OptionName.{OptionName}
 use Rattle.kc_command.specs.declared.option_name.OptionName.TheVariants as option
 use Rattle.kc_command.specs.declared.pair_options.PairsRefusal.{PairsRefusal}
 use Rattle.kc_command.specs.declared.pair_options.PairsRefusal.TheVariants as refusal
-use Rattle.kc_command.specs.declared.settings.Print.{Print}
-use Rattle.kc_command.specs.declared.settings.Print.TheVariants as report
-
--- The value of an option: that of its text, if it is allowed; the default, if the option is not given.
-
-abbrev pub or_default : {X : Type 0} → X → (Text → Option X) → Option Text → Option X
-or_default default value None = Some default
-or_default default value (Some text) = value text
-
--- `--mer-len`, the length of the words, 1 to 31; required
-abbrev pub mer_len_of : List Row → Option ℕ
-mer_len_of rows = option_and_then (number_between 1 31) (first_of (codes "mer-len") rows)
-
--- `--size`, the number of slots with which the hash tables begin, 1 to 2^40, with or without a suffix; default 1000000
-abbrev pub size_of : List Row → Option ℕ
-size_of rows = or_default 1000000 (scaled_between 1 (2 ^ 40)) (first_of (codes "size") rows)
-
--- `--threads`, 1 to 64; default 1
-abbrev pub threads_of : List Row → Option ℕ
-threads_of rows = or_default 1 (number_between 1 64) (first_of (codes "threads") rows)
-
--- the byte of a text of one byte, if it is 33 to 126
-abbrev pub quality_byte : Text → Option ℕ
-quality_byte (byte ∷ []) = if nat_le 33 byte && nat_le byte 126 then Some byte else None
-quality_byte _ = None
-
--- `--min-qual-char`, the floor of qualities; default `!`, which every quality passes
-abbrev pub floor_of : List Row → Option ℕ
-floor_of rows = or_default 33 quality_byte (first_of (codes "min-qual-char") rows)
-
--- whether the number is a power of two, from 1 to 64
-abbrev pub is_stripe_count : ℕ → Bool
-is_stripe_count number = list_any (λ power. number == power) (1 ∷ 2 ∷ 4 ∷ 8 ∷ 16 ∷ 32 ∷ 64 ∷ [])
-
--- the number, if it is one of them
-abbrev pub as_stripes : ℕ → Option ℕ
-as_stripes number = if is_stripe_count number then Some number else None
-
--- `--min-count`, the least count of a solid word, 0 to 2^62; default 2
-abbrev pub min_count_of : List Row → Option ℕ
-min_count_of rows = or_default 2 (number_between 0 (2 ^ 62)) (first_of (codes "min-count") rows)
-
--- `--max-count`, the greatest count of a solid word, 0 to 2^62; default 2^62
-abbrev pub max_count_of : List Row → Option ℕ
-max_count_of rows = or_default (2 ^ 62) (number_between 0 (2 ^ 62)) (first_of (codes "max-count") rows)
-
--- `--min-share`, the percentage of a read's words that have to be solid, 0 to 100; default 100
-abbrev pub min_share_of : List Row → Option ℕ
-min_share_of rows = or_default 100 (number_between 0 100) (first_of (codes "min-share") rows)
-
--- how many reads of a pair have to be solid, by its name
-abbrev pub pair_rule_named : Text → Option PairRule
-pair_rule_named text = if bytes_eq text (codes "both") then Some asks.All
-    else if bytes_eq text (codes "any") then Some asks.Any
-    else None
-
--- `--keep`, how many reads of a pair have to be solid; default both
-abbrev pub keep_of : List Row → Option PairRule
-keep_of rows = or_default asks.All pair_rule_named (first_of (codes "keep") rows)
-
--- the count that an intersection gives a word, by its name: the least, the greatest or the sum of the word's counts, or
--- that in the first table
-abbrev pub take_named : Text → Option Take
-take_named text = if bytes_eq text (codes "min") then Some takes.Least
-    else if bytes_eq text (codes "max") then Some takes.Greatest
-    else if bytes_eq text (codes "sum") then Some takes.Sum
-    else if bytes_eq text (codes "first") then Some takes.First
-    else None
-
--- `--take`, the count that an intersection gives a word; default the least
-abbrev pub take_of : List Row → Option Take
-take_of rows = or_default takes.Least take_named (first_of (codes "take") rows)
-
--- whether `--pairs` is given: the value of a flag is `true` if it is, and `false` if not
-abbrev pub has_pairs : List Row → Bool
-has_pairs rows = option_map_or (λ text. bytes_eq text (codes "true")) (first_of (codes "pairs") rows) false
-
--- `--stripes`, before it is lowered to the number of words; default 16
-abbrev pub stripes_of : List Row → Option ℕ
-stripes_of rows =
-    or_default 16 (λ text. option_and_then as_stripes (number_between 1 64 text)) (first_of (codes "stripes") rows)
-
--- `--batch`, the positions of a batch, 1 to 2^36; default 65536
-abbrev pub batch_of : List Row → Option ℕ
-batch_of rows = or_default 65536 (number_between 1 (2 ^ 36)) (first_of (codes "batch") rows)
-
--- the report with this name
-abbrev pub report_named : Text → Option Print
-report_named text = if bytes_eq text (codes "table") then Some report.Table
-    else if bytes_eq text (codes "dump") then Some report.Dump
-    else if bytes_eq text (codes "histo") then Some report.Histo
-    else if bytes_eq text (codes "stats") then Some report.Stats
-    else None
-
--- `--print`, the report that is written; default the table
-abbrev pub print_of : List Row → Option Print
-print_of rows = or_default report.Table report_named (first_of (codes "print") rows)
-
--- `--lower-count`, the least count of a word that is not left out, 0 to 2^62; default 0
-abbrev pub lower_of : List Row → Option ℕ
-lower_of rows = or_default 0 (number_between 0 (2 ^ 62)) (first_of (codes "lower-count") rows)
-
--- `--upper-count`, the greatest count of a word that is not left out, 0 to 2^62; default 2^62
-abbrev pub upper_of : List Row → Option ℕ
-upper_of rows = or_default (2 ^ 62) (number_between 0 (2 ^ 62)) (first_of (codes "upper-count") rows)
-
--- `--high`, the greatest count with a line of its own in a histogram, 1 to 10000000; default 10000
-abbrev pub high_of : List Row → Option ℕ
-high_of rows = or_default 10000 (number_between 1 10000000) (first_of (codes "high") rows)
-
--- `--only`, the name of a file, which may be any text: only words of that file are counted; if it is not given, all
--- words are
-abbrev pub only_of : List Row → Option Text
-only_of rows = first_of (codes "only") rows
 
 -- FIRST and SECOND, the names of the tables of `merge`, `intersect` and `subtract`, which may be any text
 
@@ -152,11 +36,6 @@ tables_of rows = unwrap_or (first_table_of rows) [] ∷ other_tables_of rows
 -- there are more than 64 tables: the first one, and more than 63 others
 abbrev pub has_too_many_tables : List Row → Bool
 has_too_many_tables rows = nat_lt 63 (length (other_tables_of rows))
-
--- the value is the one that was asked for; or it is outside its limits, and its option is refused
-abbrev pub IsValueOf : {X : Type 0} → OptionName → Option X → Result X OptionName → Type 0
-IsValueOf name asked (Ok value) = asked ≡ Some value
-IsValueOf name asked (Err refused) = (asked ≡ None) × (refused ≡ name)
 
 -- Which value is refused: the first one outside its limits, in the order of the help, even if the option has no effect.
 
@@ -209,6 +88,11 @@ first_bad_of_intersect rows = first_of_bad (judged option.Take (take_of rows) �
 abbrev pub first_bad_of_histo : List Row → Option OptionName
 first_bad_of_histo rows = first_of_bad (judged option.High (high_of rows) ∷ [])
 
+-- of `compare`
+abbrev pub first_bad_of_compare : List Row → Option OptionName
+first_bad_of_compare rows =
+    first_of_bad (judged option.Solid (solid_of rows) ∷ judged option.High (high_of rows) ∷ [])
+
 -- of `select`
 abbrev pub first_bad_of_select : List Row → Option OptionName
 first_bad_of_select rows = first_of_bad (judged option.MinCount (min_count_of rows)
@@ -246,6 +130,10 @@ pub record AsksForSelection (rows : List Row) (rule : SelectionRule) : Type 0 wh
   pub invert : IsFlag rows (codes "invert") rule.inverted
   pub profiled : rule.profiled ≡ false
 
+-- whether `--pairs` is given: the value of a flag is `true` if it is, and `false` if not
+abbrev pub has_pairs : List Row → Bool
+has_pairs rows = option_map_or (λ text. bytes_eq text (codes "true")) (first_of (codes "pairs") rows) false
+
 -- the options of a selection ask for pairs, with this rule for the number of solid reads, or for no pairs
 abbrev pub AsksForPairs : List Row → Option PairRule → Type 0
 AsksForPairs rows None = has_pairs rows ≡ false
@@ -271,6 +159,16 @@ abbrev pub AsksForSubtraction : List Row → Combining → Type 0
 AsksForSubtraction rows combining.Subtract = IsFlag rows (codes "counts") false
 AsksForSubtraction rows combining.SubtractCounts = IsFlag rows (codes "counts") true
 AsksForSubtraction rows _ = ⊥
+
+-- the options of a comparison ask for the matrix up to this count of the reads, or for none
+abbrev pub AsksForMatrix : List Row → Option ℕ → Type 0
+AsksForMatrix rows None = IsFlag rows (codes "matrix") false
+AsksForMatrix rows (Some high) = IsFlag rows (codes "matrix") true × (high_of rows ≡ Some high)
+
+-- the options of a comparison ask for this one
+pub record AsksForComparison (rows : List Row) (asked : CompareOptions) : Type 0 where
+  pub solid : solid_of rows ≡ Some asked.solid
+  pub spectrum : AsksForMatrix rows asked.spectrum
 
 -- the options of a count ask for these settings
 pub record AsksFor (rows : List Row) (settings : Settings) : Type 0 where

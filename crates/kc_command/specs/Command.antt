@@ -1,22 +1,15 @@
--- The command line of kcount: the names of its commands, and the name, the short form and the long form of each option
--- and argument, whether it takes a value, and whether it is required: source, the table of options in the README. The
--- records are those of `clap`.
-use Rattle.std.specs.Prelude.{◌≡◌, ◌⊎◌, ℕ, [], ◌∷◌, Some, true, false, codes}
+-- The command line of kcount: the names of its commands, the options and arguments of each, and which arguments are
+-- required: source, the help of the commands. The records are those of `clap`.
+use Rattle.std.specs.Prelude.{◌≡◌, ◌⊎◌, [], ◌∷◌, Some, true, false, codes}
 use Rattle.clap.specs.Simple.{new_shape}
 use Rattle.clap.specs.Words.{App, Rule, Shape, Text, new_rule}
-use Rattle.clap.specs.declared.builder.action.ArgAction.TheVariants.{Append, SetTrue}
-
--- an option with one value, under its long name
-abbrev pub value_option : Text → Rule
-value_option name = record (new_rule name) { long = Some name; value_names = 1 }
-
--- an option without a value, under its long name
-abbrev pub flag_option : Text → Rule
-flag_option name = record (new_rule name) { long = Some name; action = Some SetTrue }
-
--- an option that also has a short name, of one letter
-abbrev pub with_short : ℕ → Rule → Rule
-with_short letter option = record option { short = Some letter }
+use Rattle.clap.specs.declared.builder.action.ArgAction.TheVariants.{Append}
+use Rattle.kc_command.specs.Options.{batch_option, canonical_option, column_option, counts_option, explain_option}
+use Rattle.kc_command.specs.Options.{high_option, invert_option, keep_option, lower_count_option, matrix_option}
+use Rattle.kc_command.specs.Options.{max_count_option, mer_len_option, min_count_option, min_qual_char_option}
+use Rattle.kc_command.specs.Options.{min_share_option, only_option, output_option, output2_option, pairs_option}
+use Rattle.kc_command.specs.Options.{print_option, size_option, solid_option, stats_option, stripes_option, tab_option}
+use Rattle.kc_command.specs.Options.{take_option, threads_option, upper_count_option, with_short}
 
 -- an argument that is given at most once
 abbrev pub one_argument : Text → Rule
@@ -29,110 +22,6 @@ several_arguments name = record (new_rule name) { action = Some Append; value_na
 -- a required argument
 abbrev pub required : Rule → Rule
 required argument = record argument { required = true }
-
--- `-m`, `--mer-len`
-abbrev pub mer_len_option : Rule
-mer_len_option = with_short 109 (value_option (codes "mer-len"))
-
--- `-s`, `--size`
-abbrev pub size_option : Rule
-size_option = with_short 115 (value_option (codes "size"))
-
--- `-t`, `--threads`
-abbrev pub threads_option : Rule
-threads_option = with_short 116 (value_option (codes "threads"))
-
--- `-C`, `--canonical`
-abbrev pub canonical_option : Rule
-canonical_option = with_short 67 (flag_option (codes "canonical"))
-
--- `-o`, `--output`
-abbrev pub output_option : Rule
-output_option = with_short 111 (value_option (codes "output"))
-
--- `--min-qual-char`
-abbrev pub min_qual_char_option : Rule
-min_qual_char_option = value_option (codes "min-qual-char")
-
--- `--stripes`
-abbrev pub stripes_option : Rule
-stripes_option = value_option (codes "stripes")
-
--- `--batch`
-abbrev pub batch_option : Rule
-batch_option = value_option (codes "batch")
-
--- `--print`
-abbrev pub print_option : Rule
-print_option = value_option (codes "print")
-
--- `--column`
-abbrev pub column_option : Rule
-column_option = flag_option (codes "column")
-
--- `--tab`
-abbrev pub tab_option : Rule
-tab_option = flag_option (codes "tab")
-
--- `--lower-count`
-abbrev pub lower_count_option : Rule
-lower_count_option = value_option (codes "lower-count")
-
--- `--upper-count`
-abbrev pub upper_count_option : Rule
-upper_count_option = value_option (codes "upper-count")
-
--- `--high`
-abbrev pub high_option : Rule
-high_option = value_option (codes "high")
-
--- `--only`, the file with the only words that are counted
-abbrev pub only_option : Rule
-only_option = value_option (codes "only")
-
--- `--min-count`
-abbrev pub min_count_option : Rule
-min_count_option = value_option (codes "min-count")
-
--- `--max-count`
-abbrev pub max_count_option : Rule
-max_count_option = value_option (codes "max-count")
-
--- `--min-share`
-abbrev pub min_share_option : Rule
-min_share_option = value_option (codes "min-share")
-
--- `--invert`
-abbrev pub invert_option : Rule
-invert_option = flag_option (codes "invert")
-
--- `--pairs`
-abbrev pub pairs_option : Rule
-pairs_option = flag_option (codes "pairs")
-
--- `--keep`, how many reads of a pair have to be solid
-abbrev pub keep_option : Rule
-keep_option = value_option (codes "keep")
-
--- `--take`, the count of a word in an intersection
-abbrev pub take_option : Rule
-take_option = value_option (codes "take")
-
--- `--counts`, to subtract counts and not words
-abbrev pub counts_option : Rule
-counts_option = flag_option (codes "counts")
-
--- `--output2`, the file of the second reads of pairs
-abbrev pub output2_option : Rule
-output2_option = value_option (codes "output2")
-
--- `--stats`
-abbrev pub stats_option : Rule
-stats_option = flag_option (codes "stats")
-
--- `--explain`
-abbrev pub explain_option : Rule
-explain_option = flag_option (codes "explain")
 
 -- FILE, any number of times
 abbrev pub files_argument : Rule
@@ -157,6 +46,14 @@ first_argument = required (one_argument (codes "first"))
 -- SECOND, a required file, and any number of files more
 abbrev pub second_argument : Rule
 second_argument = required (several_arguments (codes "second"))
+
+-- READS, a required file
+abbrev pub reads_argument : Rule
+reads_argument = required (one_argument (codes "first"))
+
+-- ASSEMBLY, a required file
+abbrev pub assembly_argument : Rule
+assembly_argument = required (one_argument (codes "second"))
 
 -- WORD, at least once
 abbrev pub words_argument : Rule
@@ -243,6 +140,19 @@ filter_shape = record (new_shape (codes "filter")) {
       ∷ [];
 }
 
+-- `kcount compare`, which takes two files
+abbrev pub compare_shape : Shape
+compare_shape = record (new_shape (codes "compare")) {
+  rules = solid_option
+      ∷ matrix_option
+      ∷ high_option
+      ∷ output_option
+      ∷ explain_option
+      ∷ reads_argument
+      ∷ assembly_argument
+      ∷ [];
+}
+
 -- `kcount select`, which takes a table and any number of files
 abbrev pub select_shape : Shape
 select_shape = record (new_shape (codes "select")) {
@@ -288,6 +198,7 @@ kcount_app = record {
       ∷ intersect_shape
       ∷ subtract_shape
       ∷ filter_shape
+      ∷ compare_shape
       ∷ select_shape
       ∷ profile_shape
       ∷ [];
@@ -304,5 +215,6 @@ IsCommand name = (name ≡ codes "count")
     ⊎ (name ≡ codes "intersect")
     ⊎ (name ≡ codes "subtract")
     ⊎ (name ≡ codes "filter")
+    ⊎ (name ≡ codes "compare")
     ⊎ (name ≡ codes "select")
     ⊎ (name ≡ codes "profile")

@@ -15,37 +15,41 @@ use Rattle.clap.specs.declared.error.kind.ErrorKind.TheVariants.{
   UnknownArgument,
 }
 use Rattle.kc_command.specs.Arguments.{
-  batch_of,
   first_bad,
+  first_bad_of_compare,
   first_bad_of_dump,
   first_bad_of_histo,
   first_bad_of_intersect,
   first_bad_of_profile,
   first_bad_of_select,
   first_table_of,
-  floor_of,
   has_pairs,
   has_too_many_tables,
-  high_of,
-  keep_of,
-  lower_of,
-  mer_len_of,
-  max_count_of,
-  min_count_of,
-  min_share_of,
-  only_of,
   pairs_refusal,
-  print_of,
-  size_of,
-  stripes_of,
   tables_of,
-  take_of,
-  threads_of,
-  upper_of,
 }
 use Rattle.kc_combine.specs.declared.combining_rules.Take.TheVariants as takes
 use Rattle.kc_command.specs.Command.{kcount_app}
 use Rattle.kc_command.specs.Numbers.{scaled_between}
+use Rattle.kc_command.specs.Options.{
+  batch_of,
+  floor_of,
+  high_of,
+  keep_of,
+  lower_of,
+  max_count_of,
+  mer_len_of,
+  min_count_of,
+  min_share_of,
+  only_of,
+  print_of,
+  size_of,
+  solid_of,
+  stripes_of,
+  take_of,
+  threads_of,
+  upper_of,
+}
 use Rattle.kc_command.specs.Settings.{lowered}
 use Rattle.kc_command.specs.declared.option_name.OptionName.{OptionName}
 use Rattle.kc_command.specs.declared.option_name.OptionName.TheVariants as option
@@ -341,6 +345,54 @@ pub record FiltersTables : Type 0 where
       ≡ Some option.UpperCount
   pub second_file : fault_of kcount_app (filter_with (codes "a" ∷ codes "b" ∷ [])) ≡ UnknownArgument ∷ []
   pub option_of_dump : fault_of kcount_app (filter_with (codes "-c" ∷ codes "t.kct" ∷ [])) ≡ UnknownArgument ∷ []
+
+-- `kcount compare`, followed by these arguments
+abbrev pub compare_with : List Text → List Text
+compare_with options = codes "kcount" ∷ codes "compare" ∷ options
+
+-- a table of reads and one of an assembly
+abbrev pub two_names : List Text
+two_names = codes "r.kct" ∷ codes "a.kct" ∷ []
+
+-- `kcount compare --solid 3 --matrix --high=90 r.kct a.kct`
+abbrev pub matrix_of_two : List Text
+matrix_of_two = compare_with (codes "--solid"
+    ∷ codes "3"
+    ∷ codes "--matrix"
+    ∷ codes "--high=90"
+    ∷ two_names)
+
+-- `kcount compare`, followed by one argument and two tables
+abbrev pub comparing : Text → List Text
+comparing argument = compare_with (argument ∷ two_names)
+
+-- compares two tables, one of reads and one of an assembly
+pub record ComparesTables : Type 0 where
+  pub taken : fault_of kcount_app matrix_of_two ≡ []
+  pub command : option_map (λ met. met.0) (subcommand_of kcount_app matrix_of_two) ≡ Some (codes "compare")
+  pub good : first_bad_of_compare (options_of matrix_of_two) ≡ None
+  pub solid : solid_of (options_of matrix_of_two) ≡ Some 3
+  pub matrix : one_of (codes "matrix") (options_of matrix_of_two) ≡ Some (codes "true")
+  pub high : high_of (options_of matrix_of_two) ≡ Some 90
+  pub tables : tables_of (options_of matrix_of_two) ≡ codes "r.kct" ∷ codes "a.kct" ∷ []
+  pub alone : fault_of kcount_app (compare_with two_names) ≡ []
+  pub usual_solid : solid_of (options_of (compare_with two_names)) ≡ Some 2
+  pub usual_high : high_of (options_of (compare_with two_names)) ≡ Some 10000
+  pub no_matrix : one_of (codes "matrix") (options_of (compare_with two_names)) ≡ Some (codes "false")
+  pub output : first_of (codes "output") (options_of (comparing (codes "-oout"))) ≡ Some (codes "out")
+  pub least_solid : first_bad_of_compare (options_of (comparing (codes "--solid=0"))) ≡ None
+  pub greatest_solid : first_bad_of_compare (options_of (comparing (codes "--solid=4611686018427387904"))) ≡ None
+  pub above : first_bad_of_compare (options_of (comparing (codes "--solid=4611686018427387905")))
+      ≡ Some option.Solid
+  pub high_without_matrix : first_bad_of_compare (options_of (comparing (codes "--high=10000001")))
+      ≡ Some option.High
+  pub first_of_two : first_bad_of_compare (options_of (compare_with (codes "--high=0" ∷ codes "--solid=x" ∷ two_names)))
+      ≡ Some option.Solid
+  pub with_value : fault_of kcount_app (comparing (codes "--matrix=yes")) ≡ TooManyValues ∷ []
+  pub no_table : fault_of kcount_app (compare_with []) ≡ MissingRequiredArgument ∷ []
+  pub one_table : fault_of kcount_app (compare_with (codes "r.kct" ∷ [])) ≡ MissingRequiredArgument ∷ []
+  pub third_table : fault_of kcount_app (comparing (codes "t.kct")) ≡ UnknownArgument ∷ []
+  pub option_of_select : fault_of kcount_app (comparing (codes "--min-count=2")) ≡ UnknownArgument ∷ []
 
 -- `kcount select`, followed by these arguments
 abbrev pub select_with : List Text → List Text

@@ -2,5 +2,5 @@ pub mod Arguments
 pub mod Command
 pub mod Laws
 pub mod Numbers
-pub mod OptionName
+pub mod Options
 pub mod Settings

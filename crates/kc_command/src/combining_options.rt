@@ -5,16 +5,15 @@ ghost use Rattle.kc_command.specs.Arguments.{
   AsksForFilter,
   AsksForIntersection,
   AsksForSubtraction,
-  IsValueOf,
   first_bad_of_dump,
   first_bad_of_intersect,
   has_too_many_tables,
-  take_named,
-  take_of,
 };
+ghost use Rattle.kc_command.specs.Options.{IsValueOf, take_named, take_of};
 
 use crate::option_name::OptionName;
-use crate::settings_of_options::{has_flag, lower_count, text_of, upper_count, value_count};
+use crate::option_table::{COUNTS, LOWER_COUNT, TAKE, UPPER_COUNT};
+use crate::settings_of_options::{has_flag, text_of, value_count};
 use clap::ArgMatches;
 use kc_combine::{Combining, Intersection, Take, Within};
 
@@ -38,7 +37,7 @@ pub fn intersect_options(matches: &ArgMatches<'_>) -> Result<Combining, OptionNa
 pub fn subtract_options(matches: &ArgMatches<'_>) -> Combining
     ensures { AsksForSubtraction (rows_of (found_of matches.now)) result }
 {
-    if has_flag(matches, "counts") {
+    if has_flag(matches, COUNTS.name) {
         Combining::SubtractCounts
     } else {
         Combining::Subtract
@@ -54,8 +53,8 @@ pub fn filter_options(matches: &ArgMatches<'_>) -> Result<Combining, OptionName>
         (λ name. first_bad_of_dump (rows_of (found_of matches.now)) ≡ Some name) }
     ensures asked { IfOk result (AsksForFilter (rows_of (found_of matches.now))) }
 {
-    let least = lower_count(matches)?;
-    let most = upper_count(matches)?;
+    let least = LOWER_COUNT.number(matches)?;
+    let most = UPPER_COUNT.number(matches)?;
     Ok(Combining::Filter(Within { least, most }))
 }
 
@@ -70,7 +69,7 @@ pub fn has_too_many_tables(matches: &ArgMatches<'_>) -> bool
 fn take(matches: &ArgMatches<'_>) -> Result<Take, OptionName>
     ensures { IsValueOf OptionName.Take (take_of (rows_of (found_of matches.now))) result }
 {
-    let asked = match text_of(matches, "take") {
+    let asked = match text_of(matches, TAKE.name) {
         None => Some(Take::Least),
         Some(text) => take_named(text),
     };

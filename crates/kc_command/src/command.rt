@@ -3,6 +3,7 @@ ghost use Rattle.std.specs.Prelude.{◌≡◌, IfOk, IsOkAnd};
 ghost use Rattle.clap.specs.Words.{AddsSubcommand, app_of, new_app, shape_of};
 ghost use Rattle.kc_command.specs.Command.{
   bare_app,
+  compare_shape,
   count_shape,
   dump_shape,
   filter_shape,
@@ -18,12 +19,14 @@ ghost use Rattle.kc_command.specs.Command.{
 };
 
 use crate::command_arguments::{
-    batch, canonical, column, counted_table, counts, explain, file, files, first, high, invert,
-    keep, lower_count, max_count, mer_len, min_count, min_qual_char, min_share, only, output,
-    output2, pairs, print, second, size, stats, stripes, tab, table, take, threads, upper_count,
-    with_short, words,
+    assembly, counted_table, file, files, first, output, reads, second, table, with_short, words,
 };
 use crate::help;
+use crate::option_table::{
+    BATCH, CANONICAL, COLUMN, COUNTS, EXPLAIN, HIGH, INVERT, KEEP, LOWER_COUNT, MATRIX, MAX_COUNT,
+    MER_LEN, MIN_COUNT, MIN_QUAL_CHAR, MIN_SHARE, ONLY, OUTPUT2, PAIRS, PRINT, SIZE, SOLID,
+    STATS as SELECTION_STATS, STRIPES, TAB, TAKE, THREADS, UPPER_COUNT,
+};
 use clap::Command;
 use std::alloc::{AllocError, Global};
 
@@ -54,6 +57,9 @@ pub const SUBTRACT: &str = "subtract";
 /// The name of the command that writes the words of a table with counts within bounds.
 pub const FILTER: &str = "filter";
 
+/// The name of the command that compares a table of reads with a table of an assembly.
+pub const COMPARE: &str = "compare";
+
 /// The name of the command that writes the reads that a table selects.
 pub const SELECT: &str = "select";
 
@@ -73,6 +79,7 @@ pub fn command<'a>(alloc: Global) -> Result<Command<'a>, AllocError>
     let command = with_command(command, intersect_command(alloc));
     let command = with_command(command, subtract_command(alloc));
     let command = with_command(command, filter_command(alloc));
+    let command = with_command(command, compare_command(alloc));
     let command = with_command(command, select_command(alloc));
     with_command(command, profile_command(alloc))
 }
@@ -102,22 +109,22 @@ fn count_command<'a>(alloc: Global) -> Result<Command<'a>, AllocError>
     ensures { IfOk result (λ command. shape_of command ≡ count_shape) }
 {
     let arguments = vec![in alloc;
-        mer_len(alloc),
-        size(alloc),
-        threads(alloc),
-        canonical(alloc),
+        with_short(MER_LEN.arg(alloc), 'm'),
+        with_short(SIZE.arg(alloc), 's'),
+        with_short(THREADS.arg(alloc), 't'),
+        with_short(CANONICAL.arg(alloc), 'C'),
         output(alloc),
-        min_qual_char(alloc),
-        stripes(alloc),
-        batch(alloc),
-        print(alloc),
-        column(alloc),
-        tab(alloc),
-        lower_count(alloc),
-        upper_count(alloc),
-        high(alloc),
-        only(alloc),
-        explain(alloc),
+        MIN_QUAL_CHAR.arg(alloc),
+        STRIPES.arg(alloc),
+        BATCH.arg(alloc),
+        PRINT.arg(alloc),
+        COLUMN.arg(alloc),
+        TAB.arg(alloc),
+        LOWER_COUNT.arg(alloc),
+        UPPER_COUNT.arg(alloc),
+        HIGH.arg(alloc),
+        ONLY.arg(alloc),
+        EXPLAIN.arg(alloc),
         files(alloc),
     ]?;
     command_with_help(alloc, COUNT, help::COUNT, help::AFTER_COUNT).args(arguments)
@@ -128,12 +135,12 @@ fn dump_command<'a>(alloc: Global) -> Result<Command<'a>, AllocError>
     ensures { IfOk result (λ command. shape_of command ≡ dump_shape) }
 {
     let arguments = vec![in alloc;
-        with_short(column(alloc), 'c'),
-        with_short(tab(alloc), 't'),
-        with_short(lower_count(alloc), 'L'),
-        with_short(upper_count(alloc), 'U'),
+        with_short(COLUMN.arg(alloc), 'c'),
+        with_short(TAB.arg(alloc), 't'),
+        with_short(LOWER_COUNT.arg(alloc), 'L'),
+        with_short(UPPER_COUNT.arg(alloc), 'U'),
         output(alloc),
-        explain(alloc),
+        EXPLAIN.arg(alloc),
         file(alloc),
     ]?;
     command_with_help(alloc, DUMP, help::DUMP, help::AFTER_DUMP).args(arguments)
@@ -143,7 +150,12 @@ fn dump_command<'a>(alloc: Global) -> Result<Command<'a>, AllocError>
 fn histo_command<'a>(alloc: Global) -> Result<Command<'a>, AllocError>
     ensures { IfOk result (λ command. shape_of command ≡ histo_shape) }
 {
-    let arguments = vec![in alloc; high(alloc), output(alloc), explain(alloc), file(alloc)]?;
+    let arguments = vec![in alloc;
+        HIGH.arg(alloc),
+        output(alloc),
+        EXPLAIN.arg(alloc),
+        file(alloc),
+    ]?;
     command_with_help(alloc, HISTO, help::HISTO, help::AFTER_HISTO).args(arguments)
 }
 
@@ -151,7 +163,7 @@ fn histo_command<'a>(alloc: Global) -> Result<Command<'a>, AllocError>
 fn stats_command<'a>(alloc: Global) -> Result<Command<'a>, AllocError>
     ensures { IfOk result (λ command. shape_of command ≡ stats_shape) }
 {
-    let arguments = vec![in alloc; output(alloc), explain(alloc), file(alloc)]?;
+    let arguments = vec![in alloc; output(alloc), EXPLAIN.arg(alloc), file(alloc)]?;
     command_with_help(alloc, STATS, help::STATS, help::AFTER_STATS).args(arguments)
 }
 
@@ -159,7 +171,12 @@ fn stats_command<'a>(alloc: Global) -> Result<Command<'a>, AllocError>
 fn query_command<'a>(alloc: Global) -> Result<Command<'a>, AllocError>
     ensures { IfOk result (λ command. shape_of command ≡ query_shape) }
 {
-    let arguments = vec![in alloc; output(alloc), explain(alloc), table(alloc), words(alloc)]?;
+    let arguments = vec![in alloc;
+        output(alloc),
+        EXPLAIN.arg(alloc),
+        table(alloc),
+        words(alloc),
+    ]?;
     command_with_help(alloc, QUERY, help::QUERY, help::AFTER_QUERY).args(arguments)
 }
 
@@ -167,7 +184,12 @@ fn query_command<'a>(alloc: Global) -> Result<Command<'a>, AllocError>
 fn merge_command<'a>(alloc: Global) -> Result<Command<'a>, AllocError>
     ensures { IfOk result (λ command. shape_of command ≡ merge_shape) }
 {
-    let arguments = vec![in alloc; output(alloc), explain(alloc), first(alloc), second(alloc)]?;
+    let arguments = vec![in alloc;
+        output(alloc),
+        EXPLAIN.arg(alloc),
+        first(alloc),
+        second(alloc),
+    ]?;
     command_with_help(alloc, MERGE, help::MERGE, help::AFTER_MERGE).args(arguments)
 }
 
@@ -176,9 +198,9 @@ fn intersect_command<'a>(alloc: Global) -> Result<Command<'a>, AllocError>
     ensures { IfOk result (λ command. shape_of command ≡ intersect_shape) }
 {
     let arguments = vec![in alloc;
-        take(alloc),
+        TAKE.arg(alloc),
         output(alloc),
-        explain(alloc),
+        EXPLAIN.arg(alloc),
         first(alloc),
         second(alloc),
     ]?;
@@ -190,9 +212,9 @@ fn subtract_command<'a>(alloc: Global) -> Result<Command<'a>, AllocError>
     ensures { IfOk result (λ command. shape_of command ≡ subtract_shape) }
 {
     let arguments = vec![in alloc;
-        counts(alloc),
+        COUNTS.arg(alloc),
         output(alloc),
-        explain(alloc),
+        EXPLAIN.arg(alloc),
         first(alloc),
         second(alloc),
     ]?;
@@ -204,13 +226,29 @@ fn filter_command<'a>(alloc: Global) -> Result<Command<'a>, AllocError>
     ensures { IfOk result (λ command. shape_of command ≡ filter_shape) }
 {
     let arguments = vec![in alloc;
-        with_short(lower_count(alloc), 'L'),
-        with_short(upper_count(alloc), 'U'),
+        with_short(LOWER_COUNT.arg(alloc), 'L'),
+        with_short(UPPER_COUNT.arg(alloc), 'U'),
         output(alloc),
-        explain(alloc),
+        EXPLAIN.arg(alloc),
         file(alloc),
     ]?;
     command_with_help(alloc, FILTER, help::FILTER, help::AFTER_FILTER).args(arguments)
+}
+
+// The command that compares a table of reads with a table of an assembly.
+fn compare_command<'a>(alloc: Global) -> Result<Command<'a>, AllocError>
+    ensures { IfOk result (λ command. shape_of command ≡ compare_shape) }
+{
+    let arguments = vec![in alloc;
+        SOLID.arg(alloc),
+        MATRIX.arg(alloc),
+        HIGH.arg(alloc),
+        output(alloc),
+        EXPLAIN.arg(alloc),
+        reads(alloc),
+        assembly(alloc),
+    ]?;
+    command_with_help(alloc, COMPARE, help::COMPARE, help::AFTER_COMPARE).args(arguments)
 }
 
 // The command that writes the reads that a table selects.
@@ -218,17 +256,17 @@ fn select_command<'a>(alloc: Global) -> Result<Command<'a>, AllocError>
     ensures { IfOk result (λ command. shape_of command ≡ select_shape) }
 {
     let arguments = vec![in alloc;
-        min_count(alloc),
-        max_count(alloc),
-        min_share(alloc),
-        min_qual_char(alloc),
-        invert(alloc),
-        pairs(alloc),
-        keep(alloc),
-        stats(alloc),
+        MIN_COUNT.arg(alloc),
+        MAX_COUNT.arg(alloc),
+        MIN_SHARE.arg(alloc),
+        MIN_QUAL_CHAR.arg(alloc),
+        INVERT.arg(alloc),
+        PAIRS.arg(alloc),
+        KEEP.arg(alloc),
+        SELECTION_STATS.arg(alloc),
         output(alloc),
-        output2(alloc),
-        explain(alloc),
+        OUTPUT2.arg(alloc),
+        EXPLAIN.arg(alloc),
         counted_table(alloc),
         files(alloc),
     ]?;
@@ -240,9 +278,9 @@ fn profile_command<'a>(alloc: Global) -> Result<Command<'a>, AllocError>
     ensures { IfOk result (λ command. shape_of command ≡ profile_shape) }
 {
     let arguments = vec![in alloc;
-        min_qual_char(alloc),
+        MIN_QUAL_CHAR.arg(alloc),
         output(alloc),
-        explain(alloc),
+        EXPLAIN.arg(alloc),
         counted_table(alloc),
         files(alloc),
     ]?;

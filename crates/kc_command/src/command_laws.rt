@@ -1,5 +1,6 @@
 //! Laws of command lines. Each is the contract of a function that does nothing.
 ghost use Rattle.kc_command.specs.Laws.{
+  ComparesTables,
   CountsBothStrands,
   CountsFiles,
   CountsListedWords,
@@ -27,6 +28,7 @@ pub fn command_lines()
     ensures intersects { IntersectsTables }
     ensures subtracts { SubtractsTables }
     ensures filters { FiltersTables }
+    ensures compares { ComparesTables }
     ensures selects { SelectsReads }
     ensures pairs { SelectsPairs }
     ensures profiles { ProfilesRecords }

@@ -14,7 +14,8 @@ Examples:
   kcount count -m 21 -C -o reads.kct reads_1.fq.gz reads_2.fq.gz
   kcount histo reads.kct
   kcount query reads.kct ACGTACGTACGTACGTACGTA
-  kcount merge -o both.kct reads.kct more_reads.kct";
+  kcount merge -o both.kct reads.kct more_reads.kct
+  kcount compare reads.kct assembly.kct";
 
 /// At the top of the help of `count`.
 pub(crate) const COUNT: &str = "\
@@ -179,6 +180,36 @@ are printed on standard error.
 Examples:
   kcount filter -L 2 -o solid.kct reads.kct
   kcount count -m 21 -C reads.fq.gz | kcount filter -U 100 -o rare.kct";
+
+/// At the top of the help of `compare`.
+pub(crate) const COMPARE: &str = "\
+Compares a table of reads with a table of an assembly.";
+
+/// At the end of the help of `compare`.
+pub(crate) const AFTER_COMPARE: &str = "\
+A k-mer of READS is solid if its count is at least --solid. Writes eight lines:
+  Reads_distinct          k-mers that READS has
+  Assembly_distinct       k-mers that ASSEMBLY has
+  Shared_distinct         k-mers that both have
+  Assembly_total          the sum of all counts in ASSEMBLY
+  Assembly_only_distinct  k-mers that only ASSEMBLY has
+  Assembly_only_total     the sum of their counts
+  Solid_distinct          solid k-mers
+  Solid_shared            solid k-mers that ASSEMBLY has
+
+With --matrix, writes lines of COPIES, COUNT and NUMBER instead, in ascending
+order, with tabs between: NUMBER k-mers have COPIES as their count in ASSEMBLY,
+or 5 for five or more, and COUNT as their count in READS. All counts in READS
+above --high share the lines of --high + 1. Numbers of 0 are left out.
+
+Both tables must have the same --mer-len and --canonical.
+
+Exit status: 0 on success, 1 on an error, 2 for an invalid command line. Errors
+are printed on standard error.
+
+Examples:
+  kcount compare reads.kct assembly.kct
+  kcount compare --matrix --high 500 -o matrix.tsv reads.kct assembly.kct";
 
 /// At the top of the help of `select`.
 pub(crate) const SELECT: &str = "\

@@ -10,6 +10,7 @@ ghost use Rattle.kc_command.specs.Arguments.{
   refusal_of_reads,
 };
 
+use crate::option_table::{KEEP, OUTPUT, OUTPUT2, PAIRS};
 use crate::settings_of_options::{text_of, value_count};
 use clap::ArgMatches;
 use kc_select::{PairRule, Selection};
@@ -55,7 +56,7 @@ pub fn pairs_refusal(matches: &ArgMatches<'_>) -> Option<PairsRefusal>
 pub(crate) fn has_pairs(matches: &ArgMatches<'_>) -> bool
     ensures { result ≡ has_pairs (rows_of (found_of matches.now)) }
 {
-    match text_of(matches, "pairs") {
+    match text_of(matches, PAIRS.name) {
         Some(text) => text == "true",
         None => false,
     }
@@ -66,7 +67,10 @@ fn refusal_of_pairs(matches: &ArgMatches<'_>) -> Option<PairsRefusal>
     ensures { result ≡ refusal_of_pairs (rows_of (found_of matches.now)) }
 {
     if value_count(matches, "file") == 2 {
-        refusal_of_outputs(text_of(matches, "output"), text_of(matches, "output2"))
+        refusal_of_outputs(
+            text_of(matches, OUTPUT.name),
+            text_of(matches, OUTPUT2.name),
+        )
     } else {
         Some(PairsRefusal::NotTwoFiles)
     }
@@ -89,9 +93,9 @@ fn refusal_of_outputs(first: Option<&str>, second: Option<&str>) -> Option<Pairs
 fn refusal_of_reads(matches: &ArgMatches<'_>) -> Option<PairsRefusal>
     ensures { result ≡ refusal_of_reads (rows_of (found_of matches.now)) }
 {
-    if is_given(matches, "keep") {
+    if is_given(matches, KEEP.name) {
         Some(PairsRefusal::KeepAlone)
-    } else if is_given(matches, "output2") {
+    } else if is_given(matches, OUTPUT2.name) {
         Some(PairsRefusal::Output2Alone)
     } else {
         None

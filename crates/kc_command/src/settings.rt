@@ -2,36 +2,10 @@
 ghost use Rattle.std.specs.Prelude.{◌≡◌, ◌≤◌, ◌^◌};
 ghost use Rattle.kc_command.specs.Settings.{AreStripes, defaults, lowered, rule_of};
 
+use crate::option_table::{BATCH, HIGH, SIZE, STRIPES, THREADS};
 use kc_kmer::{K, Rule};
 use kc_report::Dump;
 use std::marker::Model;
-
-/// The greatest number of slots with which the tables can begin.
-pub(crate) const MAX_SIZE: u64 = 1 << 40;
-
-/// The greatest number of threads.
-pub(crate) const MAX_WORKERS: u32 = 64;
-
-/// The greatest number of stripes.
-pub(crate) const MAX_STRIPES: u32 = 64;
-
-/// The greatest number of positions of a batch.
-pub(crate) const MAX_BATCH: u64 = 1 << 36;
-
-/// The default number of slots with which the hash tables begin.
-pub(crate) const USUAL_SIZE: u64 = 1_000_000;
-
-/// The default number of threads.
-pub(crate) const USUAL_WORKERS: u32 = 1;
-
-/// The default number of stripes.
-pub(crate) const USUAL_STRIPES: u32 = 16;
-
-/// The default number of positions of a batch.
-pub(crate) const USUAL_BATCH: u64 = 65_536;
-
-/// The default of the greatest count with a line of its own in a histogram.
-pub(crate) const USUAL_HIGH: u64 = 10_000;
 
 /// The least quality byte, which every quality passes.
 pub(crate) const FLOOR: u8 = b'!';
@@ -118,15 +92,15 @@ impl Options {
     {
         Options {
             k,
-            size: USUAL_SIZE,
-            workers: USUAL_WORKERS,
+            size: SIZE.default,
+            workers: THREADS.default as u32,
             both: false,
             floor: FLOOR,
-            stripes: lowered_stripes(k, USUAL_STRIPES),
-            batch: USUAL_BATCH,
+            stripes: lowered_stripes(k, STRIPES.default as u32),
+            batch: BATCH.default,
             print: Print::Table,
             dump: Dump::in_lines(),
-            high: USUAL_HIGH,
+            high: HIGH.default,
         }
     }
 

@@ -10,53 +10,43 @@ ghost use Rattle.kc_command.specs.Arguments.{
   AsksForProfile,
   AsksForSelection,
   IsFlag,
-  IsValueOf,
-  batch_of,
   first_bad,
   first_bad_of_counting,
   first_bad_of_dump,
   first_bad_of_histo,
   first_bad_of_profile,
   first_bad_of_select,
+};
+ghost use Rattle.kc_command.specs.Options.{
+  IsValueOf,
+  as_stripes,
   floor_of,
   high_of,
   keep_of,
-  lower_of,
-  max_count_of,
   mer_len_of,
-  min_count_of,
-  min_share_of,
-  or_default,
   pair_rule_named,
   print_of,
   quality_byte,
   report_named,
   size_of,
-  as_stripes,
   stripes_of,
   threads_of,
-  upper_of,
 };
 ghost use Rattle.kc_command.specs.Numbers.{number_between};
 
 use crate::numbers::{number_between, scaled_between};
 use crate::option_name::OptionName;
-use crate::pair_options::{SelectOptions, has_pairs};
-use crate::settings::{
-    FLOOR, MAX_BATCH, MAX_SIZE, MAX_STRIPES, MAX_WORKERS, Options, Print, USUAL_BATCH, USUAL_HIGH,
-    USUAL_SIZE, USUAL_STRIPES, USUAL_WORKERS,
+use crate::option_table::{
+    BATCH, CANONICAL, COLUMN, HIGH, INVERT, KEEP, LOWER_COUNT, MAX_COUNT, MER_LEN, MIN_COUNT,
+    MIN_QUAL_CHAR, MIN_SHARE, PRINT, SIZE, STRIPES, TAB, THREADS, UPPER_COUNT,
 };
+use crate::pair_options::{SelectOptions, has_pairs};
+use crate::settings::{FLOOR, Options, Print};
 use clap::ArgMatches;
 use kc_kmer::K;
-use kc_report::{Dump, MAX_COUNT, MAX_HIGH};
+use kc_report::Dump;
 use kc_select::{PairRule, Selection};
 use std::alloc::Global;
-
-/// The default of the least count of a solid word.
-const USUAL_LEAST: u64 = 2;
-
-/// The default percentage of words that have to be solid: all.
-const WHOLE_SHARE: u64 = 100;
 
 /// What the options of `count` ask for.
 ///
@@ -85,11 +75,11 @@ pub fn dump_options(matches: &ArgMatches<'_>) -> Result<Dump, OptionName>
     ensures asked { IfOk result (AsksForDump (rows_of (found_of matches.now))) }
     ensures limits { IfOk result (λ dump. (dump.lower ≤ 2 ^ 62) × (dump.upper ≤ 2 ^ 62)) }
 {
-    let lower = lower_count(matches)?;
-    let upper = upper_count(matches)?;
+    let lower = LOWER_COUNT.number(matches)?;
+    let upper = UPPER_COUNT.number(matches)?;
     Ok(Dump {
-        column: has_flag(matches, "column"),
-        tab: has_flag(matches, "tab"),
+        column: has_flag(matches, COLUMN.name),
+        tab: has_flag(matches, TAB.name),
         lower,
         upper,
     })
@@ -106,15 +96,15 @@ pub fn select_options(matches: &ArgMatches<'_>) -> Result<SelectOptions, OptionN
     ensures asked { IfOk result (λ asked. AsksForSelection (rows_of (found_of matches.now)) asked.selection) }
     ensures pairs { IfOk result (λ asked. AsksForPairs (rows_of (found_of matches.now)) asked.pairs) }
 {
-    let least = min_count(matches)?;
-    let most = max_count(matches)?;
-    let share = min_share(matches)?;
+    let least = MIN_COUNT.number(matches)?;
+    let most = MAX_COUNT.number(matches)?;
+    let share = MIN_SHARE.number(matches)?;
     let floor = min_qual_char(matches)?;
     let asked = keep(matches)?;
     let selection = Selection::new(least, share)
         .with_most(most)
         .with_floor(floor)
-        .with_inverted(has_flag(matches, "invert"));
+        .with_inverted(has_flag(matches, INVERT.name));
     let pairs = if has_pairs(matches) {
         Some(asked)
     } else {
@@ -147,8 +137,7 @@ pub fn high_of(matches: &ArgMatches<'_>) -> Result<u64, OptionName>
     ensures asked { IfOk result (λ high. high_of (rows_of (found_of matches.now)) ≡ Some high) }
     ensures limits { IfOk result (λ high. (1 ≤ high) × (high ≤ 10000000)) }
 {
-    let high = number_of(matches, "high", USUAL_HIGH, 1, MAX_HIGH);
-    high.ok_or(OptionName::High)
+    HIGH.number(matches)
 }
 
 // What the options of `count` ask for, with the default report.
@@ -162,12 +151,12 @@ fn counting_options(matches: &ArgMatches<'_>) -> Result<Options, OptionName>
     let workers = threads(matches)?;
     let floor = min_qual_char(matches)?;
     let stripes = stripes(matches)?;
-    let batch = batch(matches)?;
+    let batch = BATCH.number(matches)?;
     Ok(
         Options::new(k)
             .with_size(size)
             .with_workers(workers)
-            .with_both(has_flag(matches, "canonical"))
+            .with_both(has_flag(matches, CANONICAL.name))
             .with_floor(floor)
             .with_stripes(stripes)
             .with_batch(batch),
@@ -178,7 +167,7 @@ fn counting_options(matches: &ArgMatches<'_>) -> Result<Options, OptionName>
 fn mer_len(matches: &ArgMatches<'_>) -> Result<K, OptionName>
     ensures { IsValueOf OptionName.MerLen (mer_len_of (rows_of (found_of matches.now))) result }
 {
-    let k = text_of(matches, "mer-len").and_then(length);
+    let k = text_of(matches, MER_LEN.name).and_then(length);
     k.ok_or(OptionName::MerLen)
 }
 
@@ -195,9 +184,9 @@ fn size(matches: &ArgMatches<'_>) -> Result<u64, OptionName>
     ensures value { IsValueOf OptionName.Size (size_of (rows_of (found_of matches.now))) result }
     ensures limits { IfOk result (λ size. (1 ≤ size) × (size ≤ 2 ^ 40)) }
 {
-    let size = match text_of(matches, "size") {
-        None => Some(USUAL_SIZE),
-        Some(text) => scaled_between(text.as_bytes(), 1, MAX_SIZE),
+    let size = match text_of(matches, SIZE.option.name) {
+        None => Some(SIZE.default),
+        Some(text) => scaled_between(text.as_bytes(), SIZE.least, SIZE.most),
     };
     size.ok_or(OptionName::Size)
 }
@@ -207,17 +196,8 @@ fn threads(matches: &ArgMatches<'_>) -> Result<u32, OptionName>
     ensures value { IsValueOf OptionName.Threads (threads_of (rows_of (found_of matches.now))) result }
     ensures limits { IfOk result (λ threads. (1 ≤ threads) × (threads ≤ 64)) }
 {
-    let threads = number_of(
-        matches,
-        "threads",
-        u64::from(USUAL_WORKERS),
-        1,
-        u64::from(MAX_WORKERS),
-    );
-    match threads {
-        Some(threads) => Ok(threads as u32),
-        None => Err(OptionName::Threads),
-    }
+    let threads = THREADS.number(matches)?;
+    Ok(threads as u32)
 }
 
 // The floor of qualities.
@@ -225,7 +205,7 @@ fn min_qual_char(matches: &ArgMatches<'_>) -> Result<u8, OptionName>
     ensures value { IsValueOf OptionName.MinQualChar (floor_of (rows_of (found_of matches.now))) result }
     ensures limits { IfOk result (λ floor. (33 ≤ floor) × (floor ≤ 126)) }
 {
-    let floor = match text_of(matches, "min-qual-char") {
+    let floor = match text_of(matches, MIN_QUAL_CHAR.name) {
         None => Some(FLOOR),
         Some(text) => quality_byte(text.as_bytes()),
     };
@@ -243,36 +223,11 @@ fn quality_byte(text: &[u8]) -> Option<u8>
     }
 }
 
-// The least count of a solid word.
-fn min_count(matches: &ArgMatches<'_>) -> Result<u64, OptionName>
-    ensures { IsValueOf OptionName.MinCount (min_count_of (rows_of (found_of matches.now))) result }
-{
-    let least = number_of(matches, "min-count", USUAL_LEAST, 0, MAX_COUNT);
-    least.ok_or(OptionName::MinCount)
-}
-
-// The greatest count of a solid word.
-fn max_count(matches: &ArgMatches<'_>) -> Result<u64, OptionName>
-    ensures { IsValueOf OptionName.MaxCount (max_count_of (rows_of (found_of matches.now))) result }
-{
-    let most = number_of(matches, "max-count", MAX_COUNT, 0, MAX_COUNT);
-    most.ok_or(OptionName::MaxCount)
-}
-
-// The percentage of words that have to be solid.
-fn min_share(matches: &ArgMatches<'_>) -> Result<u64, OptionName>
-    ensures value { IsValueOf OptionName.MinShare (min_share_of (rows_of (found_of matches.now))) result }
-    ensures limits { IfOk result (λ share. share ≤ 100) }
-{
-    let share = number_of(matches, "min-share", WHOLE_SHARE, 0, WHOLE_SHARE);
-    share.ok_or(OptionName::MinShare)
-}
-
 // How many reads of a pair have to be solid.
 fn keep(matches: &ArgMatches<'_>) -> Result<PairRule, OptionName>
     ensures { IsValueOf OptionName.Keep (keep_of (rows_of (found_of matches.now))) result }
 {
-    let asked = match text_of(matches, "keep") {
+    let asked = match text_of(matches, KEEP.name) {
         None => Some(PairRule::All),
         Some(text) => pair_rule_named(text),
     };
@@ -294,13 +249,8 @@ fn pair_rule_named(text: &str) -> Option<PairRule>
 fn stripes(matches: &ArgMatches<'_>) -> Result<u32, OptionName>
     ensures { IsValueOf OptionName.Stripes (stripes_of (rows_of (found_of matches.now))) result }
 {
-    let stripes = match text_of(matches, "stripes") {
-        None => Some(USUAL_STRIPES),
-        Some(text) => {
-            number_between(text.as_bytes(), 1, u64::from(MAX_STRIPES)).and_then(as_stripes)
-        }
-    };
-    stripes.ok_or(OptionName::Stripes)
+    let stripes = STRIPES.number(matches)?;
+    as_stripes(stripes).ok_or(OptionName::Stripes)
 }
 
 // The number, if it is a power of two up to 64.
@@ -313,20 +263,11 @@ fn as_stripes(number: u64) -> Option<u32>
     }
 }
 
-// The positions of a batch.
-fn batch(matches: &ArgMatches<'_>) -> Result<u64, OptionName>
-    ensures value { IsValueOf OptionName.Batch (batch_of (rows_of (found_of matches.now))) result }
-    ensures limits { IfOk result (λ batch. (1 ≤ batch) × (batch ≤ 2 ^ 36)) }
-{
-    let batch = number_of(matches, "batch", USUAL_BATCH, 1, MAX_BATCH);
-    batch.ok_or(OptionName::Batch)
-}
-
 // The report that is written.
 fn print(matches: &ArgMatches<'_>) -> Result<Print, OptionName>
     ensures { IsValueOf OptionName.Print (print_of (rows_of (found_of matches.now))) result }
 {
-    let print = match text_of(matches, "print") {
+    let print = match text_of(matches, PRINT.name) {
         None => Some(Print::Table),
         Some(text) => report_named(text),
     };
@@ -343,44 +284,6 @@ fn report_named(text: &str) -> Option<Print>
         "histo" => Some(Print::Histo),
         "stats" => Some(Print::Stats),
         _ => None,
-    }
-}
-
-/// The least count of a word that is not left out.
-pub(crate) fn lower_count(matches: &ArgMatches<'_>) -> Result<u64, OptionName>
-    ensures value { IsValueOf OptionName.LowerCount (lower_of (rows_of (found_of matches.now))) result }
-    ensures limits { IfOk result (λ lower. lower ≤ 2 ^ 62) }
-{
-    let lower = number_of(matches, "lower-count", 0, 0, MAX_COUNT);
-    lower.ok_or(OptionName::LowerCount)
-}
-
-/// The greatest count of a word that is not left out.
-pub(crate) fn upper_count(matches: &ArgMatches<'_>) -> Result<u64, OptionName>
-    ensures value { IsValueOf OptionName.UpperCount (upper_of (rows_of (found_of matches.now))) result }
-    ensures limits { IfOk result (λ upper. upper ≤ 2 ^ 62) }
-{
-    let upper = number_of(matches, "upper-count", MAX_COUNT, 0, MAX_COUNT);
-    upper.ok_or(OptionName::UpperCount)
-}
-
-// The number that an option asks for, if it is between the bounds; if it is not given, its default.
-fn number_of(
-    matches: &ArgMatches<'_>,
-    name: &str,
-    default: u64,
-    least: u64,
-    most: u64,
-) -> Option<u64>
-    requires low { least ≤ default }
-    requires high { default ≤ most }
-    ensures value { result ≡ or_default default (number_between least most)
-        (first_of name.now (rows_of (found_of matches.now))) }
-    ensures limits { IfSome result (λ number. (least ≤ number) × (number ≤ most)) }
-{
-    match text_of(matches, name) {
-        None => Some(default),
-        Some(text) => number_between(text.as_bytes(), least, most),
     }
 }
 

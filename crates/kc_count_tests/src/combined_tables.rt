@@ -3,17 +3,16 @@ ghost use Rattle.std.specs.Prelude.{◌≡◌, IfOk};
 ghost use Rattle.kc_report.specs.Table.{MaySay};
 
 use crate::count_assertions::{assert_items, assert_same};
+use crate::refusing_streams::narrow_writer;
 use crate::tally_rows::k_of;
 use kc_combine::{
     Ahead, CombineFault, Combining, Intersection, KeptTable, LoadedTable, PlacedFault, Sum, Take,
     Totals, Within, combine_tables, combine_texts, judge_texts, write_combined,
 };
-use kc_io::{FromBytes, Sink, ToVec, ToWrite};
-use kc_report::{Header, Origin, ReportFault, read_table};
+use kc_io::{FromBytes, Sink, ToVec};
+use kc_report::{Header, ReportFault, read_table};
 use kc_tally::Tally;
 use std::alloc::Global;
-use std::io;
-use std::io::Write;
 use std::process::Abort;
 use std::test::Fail;
 
@@ -40,6 +39,149 @@ fn sources_of<'a>(alloc: Global, texts: &[&'a [u8]]) -> Result<Vec<FromBytes<'a>
     }
     Ok(sources)
 }
+
+// A way to combine, texts of tables, and what comes of them: the name of the fault, or "none", with the place of its
+// table, or else the number of the reads of all tables; then the text, and its totals.
+type Row = (
+    Combining,
+    &'static [&'static [u8]],
+    (&'static str, u64),
+    &'static [u8],
+    (u64, u64),
+);
+
+// Tables of longer words, of both strands, of a list, and with another floor.
+const LONGER: &[u8] = b"KCT 2 4 s a 33 1\nACGT 1\nEND 1 1\n";
+
+const STRANDS: &[u8] = b"KCT 2 3 c a 33 1\nACG 1\nEND 1 1\n";
+
+const LISTED: &[u8] = b"KCT 2 3 s o 33 1\nACG 1\nEND 1 1\n";
+
+const FLOOR: &[u8] = b"KCT 2 3 s a 40 1\nACG 1\nEND 1 1\n";
+
+// What the first tables have in common, and the same with its greatest count, and what the first one has alone.
+const SHARED: &[u8] = b"KCT 1 3 s\nACG 1\nEND 1 1\n";
+
+const GREATEST: &[u8] = b"KCT 1 3 s\nACG 3\nEND 1 3\n";
+
+const ALONE: &[u8] = b"KCT 1 3 s\nCGT 1\nGTA 1\nEND 2 2\n";
+
+const MOST: Combining = Combining::Intersect(Intersection {
+    take: Take::Greatest,
+});
+
+// A table that is none, one with a word twice, and one with a wrong end; and one of too many reads.
+const NO_TABLE: &[u8] = b"ACG 1\n";
+
+const NO_ROW: &[u8] = b"KCT 1 3 s\nACG 1\nACG 1\n";
+
+const SHORT: &[u8] = b"KCT 1 3 s\nACG 1\nEND 1 2\n";
+
+const READS: &[u8] = b"KCT 2 3 s a 33 4611686018427387904\nEND 0 0\n";
+
+const UNLIKE: (&str, u64) = ("unlike", 0);
+
+const LARGE: (&str, u64) = ("too large", 0);
+
+const ROWS: &[Row] = &[
+    (
+        Combining::Merge,
+        &[FIRST, SECOND, SECOND],
+        ("none", 3),
+        MERGED,
+        (3, 5),
+    ),
+    (
+        Combining::Merge,
+        &[SECOND, FIRST],
+        ("none", 2),
+        b"KCT 2 3 s a 33 2\nACG 2\nCGT 1\nGTA 1\nEND 3 4\n",
+        (3, 4),
+    ),
+    // with a table that has no origin the sum has none
+    (
+        Combining::Merge,
+        &[NOTHING, FIRST],
+        ("none", 0),
+        b"KCT 1 3 s\nACG 1\nCGT 1\nGTA 1\nEND 3 3\n",
+        (3, 3),
+    ),
+    (LEAST, &[FIRST, SECOND], ("none", 0), SHARED, (1, 1)),
+    (
+        MOST,
+        &[SECOND, MERGED, FIRST],
+        ("none", 0),
+        GREATEST,
+        (1, 3),
+    ),
+    (
+        Combining::Subtract,
+        &[FIRST, SECOND],
+        ("none", 0),
+        ALONE,
+        (2, 2),
+    ),
+    (
+        Combining::Subtract,
+        &[FIRST, FIRST],
+        ("none", 0),
+        NOTHING,
+        (0, 0),
+    ),
+    (
+        Combining::SubtractCounts,
+        &[MERGED, FIRST],
+        ("none", 0),
+        b"KCT 1 3 s\nACG 2\nEND 1 2\n",
+        (1, 2),
+    ),
+    (
+        Combining::Filter(Within { least: 2, most: 9 }),
+        &[MERGED],
+        ("none", 0),
+        GREATEST,
+        (1, 3),
+    ),
+    (
+        Combining::Merge,
+        &[FIRST, NO_TABLE],
+        ("bad header", 2),
+        b"",
+        (0, 0),
+    ),
+    (
+        Combining::Merge,
+        &[FIRST, FIRST, SHORT],
+        ("bad end", 3),
+        b"",
+        (0, 0),
+    ),
+    (
+        Combining::Merge,
+        &[NO_ROW, FIRST],
+        ("bad row 3", 1),
+        b"",
+        (0, 0),
+    ),
+    // a count above 2^62, counts that are together, and reads that are
+    (Combining::Merge, &[MANY, MANY], LARGE, b"", (0, 0)),
+    (Combining::Merge, &[MANY, SECOND], LARGE, b"", (0, 0)),
+    (Combining::Merge, &[FIRST, READS], LARGE, b"", (0, 0)),
+    (
+        Combining::Merge,
+        &[FIRST, FIRST, LONGER],
+        UNLIKE,
+        b"",
+        (0, 0),
+    ),
+    (LEAST, &[FIRST, STRANDS], UNLIKE, b"", (0, 0)),
+    (Combining::Subtract, &[LONGER, FIRST], UNLIKE, b"", (0, 0)),
+    // the origins of merged tables have to match, those of others need not
+    (Combining::Merge, &[FIRST, LISTED], UNLIKE, b"", (0, 0)),
+    (Combining::Merge, &[FIRST, FLOOR], UNLIKE, b"", (0, 0)),
+    (LEAST, &[FIRST, LISTED], ("none", 0), SHARED, (1, 1)),
+    (LEAST, &[FIRST, FLOOR], ("none", 0), SHARED, (1, 1)),
+];
 
 // What is written for tables with these texts, and what is returned.
 fn combined<W: Sink>(
@@ -71,7 +213,7 @@ fn name_of(fault: &CombineFault<PlacedFault>) -> (&'static str, u64) {
     }
 }
 
-// The fault of tables with these texts that are judged first, or "none".
+// The fault of tables with these texts that are judged first, or "none" and the number of all reads.
 fn judged(
     alloc: Global,
     combining: Combining,
@@ -82,142 +224,42 @@ fn judged(
         return Err(Fail::from("no table"));
     }
     match judge_texts(alloc, combining, &mut sources, 1000) {
-        Ok(_) => Ok(("none", 0)),
+        Ok(header) => match header.origin {
+            Some(origin) => Ok(("none", origin.reads)),
+            None => Ok(("none", 0)),
+        },
         Err(fault) => Ok(name_of(&fault)),
     }
 }
 
-// Asserts what is written for tables, and which totals are returned.
-fn assert_written<H: Abort + AllocGlobal>(
+// Asserts that this was returned and written for the tables of a row.
+fn assert_row<H: Abort>(
     rt: &H,
-    combining: Combining,
-    texts: &[&[u8]],
-    want: &[u8],
-    totals: (u64, u64),
-) -> Result<(), Fail> {
-    let mut sink = ToVec::new(Vec::new(rt.alloc()));
-    let (distinct, total) = totals;
-    match combined(rt.alloc(), combining, texts, &mut sink)? {
-        Ok(totals) => assert_same(rt, "totals", &totals, &Totals { distinct, total }),
-        Err(fault) => assert_same(rt, "fault", &name_of(&fault), &("none", 0)),
+    row: &Row,
+    answer: &Result<Totals, CombineFault<PlacedFault>>,
+    text: &[u8],
+) {
+    let (_, _, want, written, (distinct, total)) = row;
+    match answer {
+        Ok(totals) => {
+            let (distinct, total) = (*distinct, *total);
+            assert_same(rt, "totals", totals, &Totals { distinct, total });
+        }
+        Err(fault) => assert_same(rt, "fault", &name_of(fault), want),
     }
-    assert_items(rt, "text", sink.as_slice(), want);
-    let fault = judged(rt.alloc(), combining, texts)?;
-    assert_same(rt, "fault of the first pass", &fault, &("none", 0));
-    Ok(())
+    assert_same(rt, want.0, &answer.is_ok(), &(want.0 == "none"));
+    assert_items(rt, want.0, text, *written);
 }
 
 #[test]
-fn tables_that_are_merged(rt: HostRuntime) -> Result<(), Fail> {
-    let merge = Combining::Merge;
-    assert_written(&rt, merge, &[FIRST, SECOND, SECOND], MERGED, (3, 5))?;
-    assert_written(&rt, merge, &[SECOND, SECOND, FIRST], MERGED, (3, 5))?;
-    // with a table that has no origin the sum has none
-    let sum = b"KCT 1 3 s\nACG 1\nCGT 1\nGTA 1\nEND 3 3\n";
-    assert_written(&rt, merge, &[FIRST, NOTHING, NOTHING], sum, (3, 3))?;
-    assert_written(&rt, merge, &[NOTHING, FIRST], sum, (3, 3))
-}
-
-#[test]
-fn words_of_each_table_and_of_the_first_alone(rt: HostRuntime) -> Result<(), Fail> {
-    let both = [FIRST, SECOND];
-    let shared = b"KCT 1 3 s\nACG 1\nEND 1 1\n";
-    assert_written(&rt, LEAST, &both, shared, (1, 1))?;
-    let most = Combining::Intersect(Intersection {
-        take: Take::Greatest,
-    });
-    let greatest = b"KCT 1 3 s\nACG 3\nEND 1 3\n";
-    assert_written(&rt, most, &[SECOND, MERGED, FIRST], greatest, (1, 3))?;
-    let others = b"KCT 1 3 s\nCGT 1\nGTA 1\nEND 2 2\n";
-    assert_written(&rt, Combining::Subtract, &both, others, (2, 2))?;
-    assert_written(&rt, Combining::Subtract, &[FIRST, FIRST], NOTHING, (0, 0))?;
-    let left = b"KCT 1 3 s\nACG 2\nEND 1 2\n";
-    let counts = Combining::SubtractCounts;
-    assert_written(&rt, counts, &[MERGED, FIRST], left, (1, 2))?;
-    let filter = Combining::Filter(Within { least: 2, most: 9 });
-    assert_written(&rt, filter, &[MERGED], greatest, (1, 3))
-}
-
-// Asserts that nothing is written for tables, since there is this fault.
-fn assert_refused<H: Abort + AllocGlobal>(
-    rt: &H,
-    combining: Combining,
-    texts: &[&[u8]],
-    want: (&'static str, u64),
-) -> Result<(), Fail> {
-    let mut sink = ToVec::new(Vec::new(rt.alloc()));
-    let name = match combined(rt.alloc(), combining, texts, &mut sink)? {
-        Ok(_) => ("none", 0),
-        Err(fault) => name_of(&fault),
-    };
-    assert_same(rt, "fault", &name, &want);
-    assert_items(rt, "text", sink.as_slice(), b"");
-    let fault = judged(rt.alloc(), combining, texts)?;
-    assert_same(rt, "fault of the first pass", &fault, &want);
-    Ok(())
-}
-
-#[test]
-fn the_header_of_tables_that_are_judged(rt: HostRuntime) -> Result<(), Fail> {
-    let mut sources = sources_of(rt.alloc(), &[FIRST, SECOND, SECOND])?;
-    if sources.is_empty() {
-        return Err(Fail::from("no table"));
-    }
-    let Ok(header) = judge_texts(rt.alloc(), Combining::Merge, &mut sources, 1000) else {
-        return Err(Fail::from("a fault"));
-    };
-    let origin = Origin {
-        floor: 33,
-        reads: 3,
-        listed: false,
-    };
-    let seen = (header.k.get(), header.both, header.origin);
-    assert_same(&rt, "header", &seen, &(3, false, Some(origin)));
-    Ok(())
-}
-
-// A table with a word twice, one with a wrong end, and a text that is no table.
-const NO_ROW: &[u8] = b"KCT 1 3 s\nACG 1\nACG 1\n";
-
-const SHORT: &[u8] = b"KCT 1 3 s\nACG 1\nEND 1 2\n";
-
-const NO_TABLE: &[u8] = b"ACG 1\n";
-
-#[test]
-fn tables_that_are_refused(rt: HostRuntime) -> Result<(), Fail> {
-    let merge = Combining::Merge;
-    assert_refused(&rt, merge, &[FIRST, NO_TABLE], ("bad header", 2))?;
-    assert_refused(&rt, merge, &[FIRST, FIRST, SHORT], ("bad end", 3))?;
-    assert_refused(&rt, merge, &[NO_ROW, FIRST], ("bad row 3", 1))?;
-    // a count above 2^62, counts that are together, and reads that are
-    assert_refused(&rt, merge, &[MANY, MANY], ("too large", 0))?;
-    assert_refused(&rt, merge, &[MANY, SECOND], ("too large", 0))?;
-    let reads = b"KCT 2 3 s a 33 4611686018427387904\nEND 0 0\n";
-    assert_refused(&rt, merge, &[FIRST, reads], ("too large", 0))
-}
-
-// Tables of longer words, of both strands, of a list, and with another floor.
-const LONGER: &[u8] = b"KCT 2 4 s a 33 1\nACGT 1\nEND 1 1\n";
-
-const STRANDS: &[u8] = b"KCT 2 3 c a 33 1\nACG 1\nEND 1 1\n";
-
-const LISTED: &[u8] = b"KCT 2 3 s o 33 1\nACG 1\nEND 1 1\n";
-
-const FLOOR: &[u8] = b"KCT 2 3 s a 40 1\nACG 1\nEND 1 1\n";
-
-#[test]
-fn tables_that_do_not_match(rt: HostRuntime) -> Result<(), Fail> {
-    let unlike = ("unlike", 0);
-    for other in [LONGER, STRANDS] {
-        assert_refused(&rt, Combining::Merge, &[FIRST, FIRST, other], unlike)?;
-        assert_refused(&rt, LEAST, &[FIRST, other], unlike)?;
-        assert_refused(&rt, Combining::Subtract, &[other, FIRST], unlike)?;
-    }
-    // the origins of merged tables have to match, those of others need not
-    for other in [LISTED, FLOOR] {
-        assert_refused(&rt, Combining::Merge, &[FIRST, NOTHING, other], unlike)?;
-        let shared = b"KCT 1 3 s\nACG 1\nEND 1 1\n";
-        assert_written(&rt, LEAST, &[FIRST, other], shared, (1, 1))?;
+fn tables_that_are_combined(rt: HostRuntime) -> Result<(), Fail> {
+    for row in ROWS {
+        let (combining, texts, want, ..) = row;
+        let name = judged(rt.alloc(), *combining, *texts)?;
+        assert_same(&rt, "the first pass", &name, want);
+        let mut sink = ToVec::new(Vec::new(rt.alloc()));
+        let answer = combined(rt.alloc(), *combining, *texts, &mut sink)?;
+        assert_row(&rt, row, &answer, sink.as_slice());
     }
     Ok(())
 }
@@ -264,60 +306,36 @@ fn loaded_table(alloc: Global, text: &[u8]) -> Result<LoadedTable, Fail>
     Ok(LoadedTable { tally, origin })
 }
 
-// Asserts what is written for two tables in memory, and the fault if there is one.
-fn assert_loaded<H: Abort + AllocGlobal>(
-    rt: &H,
-    combining: Combining,
-    texts: (&[u8], &[u8]),
-    want: &[u8],
-    name: (&'static str, u64),
-) -> Result<(), Fail> {
-    let (one, other) = texts;
-    let first = loaded_table(rt.alloc(), one)?;
-    let second = loaded_table(rt.alloc(), other)?;
-    let mut sink = ToVec::new(Vec::new(rt.alloc()));
-    let tables = [first, second];
-    let seen = match combine_tables(rt.alloc(), combining, &tables, &mut sink) {
-        Ok(_) => ("none", 0),
-        Err(fault) => name_of(&fault),
+// Asserts the result of a row for its tables in memory, if these are two.
+fn assert_loaded<H: Abort + AllocGlobal>(rt: &H, row: &Row) -> Result<(), Fail> {
+    let (combining, texts, ..) = row;
+    let [one, other] = *texts else {
+        return Ok(());
     };
-    assert_same(rt, "fault", &seen, &name);
-    assert_items(rt, "text", sink.as_slice(), want);
+    let tables = [
+        loaded_table(rt.alloc(), *one)?,
+        loaded_table(rt.alloc(), *other)?,
+    ];
+    let mut sink = ToVec::new(Vec::new(rt.alloc()));
+    let answer = combine_tables(rt.alloc(), *combining, &tables, &mut sink);
+    assert_row(rt, row, &answer, sink.as_slice());
     Ok(())
 }
 
 #[test]
 fn loaded_tables_that_are_combined(rt: HostRuntime) -> Result<(), Fail> {
-    let none = ("none", 0);
-    let sum = b"KCT 2 3 s a 33 2\nACG 2\nCGT 1\nGTA 1\nEND 3 4\n";
-    assert_loaded(&rt, Combining::Merge, (FIRST, SECOND), sum, none)?;
-    let shared = b"KCT 1 3 s\nACG 1\nEND 1 1\n";
-    assert_loaded(&rt, LEAST, (FIRST, SECOND), shared, none)?;
-    let others = b"KCT 1 3 s\nCGT 1\nGTA 1\nEND 2 2\n";
-    assert_loaded(&rt, Combining::Subtract, (FIRST, SECOND), others, none)?;
-    assert_loaded(&rt, Combining::Merge, (FIRST, FLOOR), b"", ("unlike", 0))?;
-    assert_loaded(&rt, Combining::Merge, (MANY, SECOND), b"", ("too large", 0))?;
-    let together = Combining::Intersect(Intersection { take: Take::Sum });
-    assert_loaded(&rt, together, (MANY, MANY), b"", ("too large", 0))
-}
-
-// A writer that takes nothing.
-#[derive(Drop)]
-struct Closed;
-
-impl Write for Closed {
-    fn write(&mut self, _buf: &[u8]) -> io::Result<usize> {
-        Err(io::Error::from(io::ErrorKind::Other))
+    for row in ROWS {
+        // a text with a fault of its own is no table in memory
+        if !row.2.0.starts_with("bad") {
+            assert_loaded(&rt, row)?;
+        }
     }
-
-    fn flush(&mut self) -> io::Result<()> {
-        Ok(())
-    }
+    Ok(())
 }
 
 #[test]
 fn a_combined_table_that_is_not_written(rt: HostRuntime) -> Result<(), Fail> {
-    let mut writer = ToWrite::new(Closed);
+    let mut writer = narrow_writer(rt.alloc(), 0, true)?;
     let texts: [&[u8]; 2] = [FIRST, SECOND];
     let name = match combined(rt.alloc(), Combining::Merge, &texts, &mut writer)? {
         Ok(_) => ("none", 0),

@@ -1,4 +1,4 @@
-//! Worked rows of tallies that grow row by row.
+//! A worked tally that grows row by row.
 ghost use Rattle.std.specs.Prelude.{◌≡◌, [], ◌∷◌, IfOk};
 ghost use Rattle.kc_tally.specs.Tally.{row_of};
 
@@ -7,7 +7,6 @@ use crate::tally_rows::{assert_parted, k_of};
 use kc_kmer::K;
 use kc_tally::{GrowingRows, Row, Tally};
 use std::alloc::{AllocError, Global};
-use std::process::Abort;
 use std::test::Fail;
 
 // The rows of the parted tally, which come one by one.
@@ -36,26 +35,11 @@ fn counted_tally(alloc: Global, k: K) -> Result<(u64, Tally), AllocError>
 
 #[test]
 fn a_tally_row_by_row(rt: HostRuntime) -> Result<(), Fail> {
+    let last = Row { word: 15, count: 1 };
+    let rows = parted_rows(rt.alloc())?;
+    assert_same(&rt, "last", &rows.last(), &Some(last));
     let (count, tally) = counted_tally(rt.alloc(), k_of(2)?)?;
     assert_same(&rt, "rows", &count, &4);
     assert_parted(&rt, &tally);
-    Ok(())
-}
-
-// Appends a row of the next word to the others.
-fn push_next<H: Abort>(rt: &H, rows: &mut GrowingRows, word: u64) -> Result<(), AllocError> {
-    assert!(rt; word < 1 << 62);
-    rows.push(Row { word, count: 1 })
-}
-
-// More rows than are packed at a time.
-#[test]
-fn many_rows(rt: HostRuntime) -> Result<(), AllocError> {
-    let mut rows = GrowingRows::new(rt.alloc());
-    assert_same(&rt, "none", &rows.last(), &None);
-    for word in 0u64..200_000 {
-        push_next(&rt, &mut rows, word)?;
-        assert_same(&rt, word, &rows.last(), &Some(Row { word, count: 1 }));
-    }
     Ok(())
 }

@@ -7,13 +7,15 @@ mod combined_counts;
 #[cfg(test)]
 mod combined_tables;
 #[cfg(test)]
+mod compared_words;
+#[cfg(test)]
 mod count_assertions;
 #[cfg(test)]
 mod count_fault_texts;
 #[cfg(test)]
 mod counting_tables;
 #[cfg(test)]
-mod counts_beside_slots;
+mod dumped_texts;
 #[cfg(test)]
 mod growing_tallies;
 #[cfg(test)]

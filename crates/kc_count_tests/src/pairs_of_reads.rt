@@ -5,7 +5,6 @@ ghost use Rattle.kc_fastx.specs.Parsing.{most_bytes};
 use crate::count_assertions::{assert_items, assert_same};
 use crate::refusing_streams::{ByteByByte, narrow_writer, read_if_memory};
 use crate::report_rows::table_of;
-use crate::selected_reads::long_record;
 use kc_fastx::FastxFault;
 use kc_io::{FromBytes, FromRead, Sink, Source, ToVec};
 use kc_select::{
@@ -19,15 +18,16 @@ use std::test::Fail;
 // The table of words of three bases in which ACG and CGT occur twice, and GTA once.
 const TABLE: &[u8] = b"KCT 1 3 s\nACG 2\nCGT 2\nGTA 1\nEND 3 5\n";
 
-// Two texts, how many reads of a pair have to be solid, whether the other pairs are selected, and what is returned: the
-// bytes, the reads, those that are kept, their words and the solid ones. Then what is written of the first reads, of
-// their mates, and of both to one sink.
+// Two texts, how many reads of a pair have to be solid, whether the other pairs are selected, how many bytes each
+// source may give, and what is returned: the bytes, the reads, those that are kept, their words and the solid ones.
+// Then what is written of the first reads, of their mates, and of both to one sink.
 #[derive(Clone, Copy)]
 struct Row<'a> {
     first: &'a [u8],
     second: &'a [u8],
     asked: PairRule,
     inverted: bool,
+    limit: u64,
     answer: Result<[u64; 5], PairFault>,
     firsts: &'a [u8],
     mates: &'a [u8],
@@ -52,6 +52,7 @@ const CHOICES: &[Row<'static>] = &[
         second: SECOND,
         asked: PairRule::All,
         inverted: false,
+        limit: 100,
         answer: Ok([74, 8, 2, 10, 5]),
         firsts: b">a/1\nACGTA\n",
         mates: b">a/2\nCGT\n",
@@ -62,6 +63,7 @@ const CHOICES: &[Row<'static>] = &[
         second: SECOND,
         asked: PairRule::Any,
         inverted: false,
+        limit: 100,
         answer: Ok([74, 8, 6, 10, 5]),
         firsts: ANY_FIRSTS,
         mates: ANY_MATES,
@@ -73,6 +75,7 @@ const CHOICES: &[Row<'static>] = &[
         second: SECOND,
         asked: PairRule::All,
         inverted: true,
+        limit: 100,
         answer: Ok([74, 8, 6, 10, 5]),
         firsts: b">b/1\nACG\n>c/1\nAAA\n>d/1\nTTT\n",
         mates: b">b/2\nAAA\n>c/2\nACG\n>d/2\nAAA\n",
@@ -83,6 +86,7 @@ const CHOICES: &[Row<'static>] = &[
         second: SECOND,
         asked: PairRule::Any,
         inverted: true,
+        limit: 100,
         answer: Ok([74, 8, 2, 10, 5]),
         firsts: b">d/1\nTTT\n",
         mates: b">d/2\nAAA\n",
@@ -94,6 +98,7 @@ const CHOICES: &[Row<'static>] = &[
         second: b"\n\r\n",
         asked: PairRule::All,
         inverted: true,
+        limit: 100,
         answer: Ok([3, 0, 0, 0, 0]),
         firsts: b"",
         mates: b"",
@@ -105,42 +110,24 @@ const CHOICES: &[Row<'static>] = &[
         second: b"\n>a\nAC\n",
         asked: PairRule::All,
         inverted: false,
+        limit: 100,
         answer: Ok([23, 2, 2, 2, 2]),
         firsts: b"@a\nACGT\n+\nIIII\n",
         mates: b">a\nAC\n",
         both: b"@a\nACGT\n+\nIIII\n>a\nAC\n",
     },
-];
-
-// Two texts of one record each, with titles of mates, and how many bytes they have.
-const MATES: &[(&[u8], &[u8], u64)] = &[
-    (b">a\nACG\n", b">a\nCGT\n", 14),
-    (b">a/1\nACG\n", b">a/2\nCGT\n", 18),
-    (b">a.1\nACG\n", b">a.2\nCGT\n", 18),
-    (b">a/1\nACG\n", b">a\nCGT\n", 16),
-    (b">a\nACG\n", b">a/2\nCGT\n", 16),
     // titles up to the first blank or tab
-    (b">a/1 x\nACG\n", b">a/2\ty\nCGT\n", 22),
-    (b">i:7 1:N:0\nACG\n", b">i:7 2:N:0\nCGT\n", 30),
-    // the Sequence Read Archive: the number of the record in both, and that of the mate after it
-    (b">S.1 1 l=3\nACG\n", b">S.1 1 l=3\nCGT\n", 30),
-    (b">S.2 2\nACG\n", b">S.2 2\nCGT\n", 22),
-    (b">S.1.1 1\nACG\n", b">S.1.2 1\nCGT\n", 26),
-    (b">\nACG\n", b">\nCGT\n", 12),
-];
-
-// Two texts of one record each, with other titles.
-const STRANGERS: &[(&[u8], &[u8])] = &[
-    (b">a/1\nACG\n", b">b/2\nCGT\n"),
-    (b">a\nACG\n", b">b\nCGT\n"),
-    (b">a/1\nACG\n", b">a/1\nCGT\n"),
-    (b">a/2\nACG\n", b">a/2\nCGT\n"),
-    (b">a/2\nACG\n", b">a/1\nCGT\n"),
-    (b">a1\nACG\n", b">a2\nCGT\n"),
-    (b">1\nACG\n", b">2\nCGT\n"),
-    (b">S.3\nACG\n", b">S.4\nCGT\n"),
-    (b">a x\nACG\n", b">b x\nCGT\n"),
-    (b">a\nACG\n", b">\nCGT\n"),
+    Row {
+        first: b">a/1 x\nACG\n",
+        second: b">a/2\ty\nCGT\n",
+        asked: PairRule::All,
+        inverted: false,
+        limit: 12,
+        answer: Ok([22, 2, 2, 2, 2]),
+        firsts: b">a/1 x\nACG\n",
+        mates: b">a/2\ty\nCGT\n",
+        both: b">a/1 x\nACG\n>a/2\ty\nCGT\n",
+    },
 ];
 
 // One pair, and what is written of it.
@@ -247,7 +234,25 @@ const AT_ONCE: &[(&[u8], &[u8], PairFault)] = &[
         b"\x1f\x8b",
         PairFault::Reads(Side::Second, FastxFault::ShortGzip),
     ),
+    // other titles
+    (b">a/1\nACG\n", b">b/2\nCGT\n", PairFault::Unpaired(1)),
+    (b">a/2\nACG\n", b">a/1\nCGT\n", PairFault::Unpaired(1)),
+    // more than 100 bytes
+    (
+        LONG,
+        MATE,
+        PairFault::Reads(Side::First, FastxFault::TooLong),
+    ),
+    (
+        ONE,
+        LONG,
+        PairFault::Reads(Side::Second, FastxFault::TooLong),
+    ),
 ];
+
+// A text of more than 100 bytes.
+const LONG: &[u8] = b">a\nAAAAAAAAAAAAAAAAAAAAAAAAAAAAAAAAAAAAAAAAAAAAAAAAAAAAAAAAAAAA\n\
+    >b\nAAAAAAAAAAAAAAAAAAAAAAAAAAAAAAAAAAAAAAAAAAAAAAAAAAAAAAAAAAAA\n";
 
 #[test]
 fn pairs_that_are_written(rt: HostRuntime) -> Result<(), Fail> {
@@ -258,43 +263,10 @@ fn pairs_that_are_written(rt: HostRuntime) -> Result<(), Fail> {
 }
 
 #[test]
-fn titles_of_mates(rt: HostRuntime) -> Result<(), Fail> {
-    for (first, second, bytes) in MATES {
-        let mut both = Vec::from_slice(rt.alloc(), *first)?;
-        both.extend_from_slice(*second)?;
-        let row = Row {
-            first: *first,
-            second: *second,
-            asked: PairRule::All,
-            inverted: false,
-            answer: Ok([*bytes, 2, 2, 2, 2]),
-            firsts: *first,
-            mates: *second,
-            both: both.as_slice(),
-        };
-        assert_row(&rt, &row)?;
-    }
-    Ok(())
-}
-
-#[test]
-fn titles_of_strangers(rt: HostRuntime) -> Result<(), Fail> {
-    for (first, second) in STRANGERS {
-        assert_row(&rt, &refused_row(*first, *second, PairFault::Unpaired(1)))?;
-    }
-    Ok(())
-}
-
-#[test]
-fn faults_of_the_first_records(rt: HostRuntime) -> Result<(), Fail> {
+fn faults_of_records(rt: HostRuntime) -> Result<(), Fail> {
     for (first, second, fault) in AT_ONCE {
         assert_row(&rt, &refused_row(*first, *second, *fault))?;
     }
-    Ok(())
-}
-
-#[test]
-fn faults_behind_a_pair(rt: HostRuntime) -> Result<(), Fail> {
     for (first, second, fault) in BEHIND_A_PAIR {
         let mut row = refused_row(*first, *second, *fault);
         row.firsts = ONE;
@@ -312,6 +284,7 @@ fn refused_row<'a>(first: &'a [u8], second: &'a [u8], fault: PairFault) -> Row<'
         second,
         asked: PairRule::Any,
         inverted: false,
+        limit: 100,
         answer: Err(fault),
         firsts: b"",
         mates: b"",
@@ -319,12 +292,13 @@ fn refused_row<'a>(first: &'a [u8], second: &'a [u8], fault: PairFault) -> Row<'
     }
 }
 
-// Asserts the results of a row for its texts, if a word is solid from 2 on.
+// Asserts the results of a row for its texts, if a word is solid from 2 on: with both reads of a pair in one sink, and
+// with the reads in two.
 fn assert_row<H: Abort + AllocGlobal>(rt: &H, row: &Row<'_>) -> Result<(), Fail> {
     let tally = table_of(rt.alloc(), TABLE)?;
     let reads = Selection::new(2, 66).with_inverted(row.inverted);
     let selector = Selector::new(rt.alloc(), &tally, reads)?;
-    let selection = PairSelection::new(&selector, row.asked, 1 << 36);
+    let selection = PairSelection::new(&selector, row.asked, row.limit.min(100));
     assert_interleaved(rt, row, &selection);
     assert_apart(rt, row, &selection);
     Ok(())
@@ -405,68 +379,6 @@ fn numbers_of(answer: Result<Selected, PairFault>) -> Result<[u64; 5], PairFault
         counts.words,
         counts.solid,
     ])
-}
-
-// How many bytes each source may give, and what is returned of a text of 9 bytes and one of 11.
-const LIMITS: &[(u64, Result<[u64; 5], PairFault>)] = &[
-    (11, Ok([20, 2, 2, 2, 2])),
-    (10, Err(PairFault::Reads(Side::Second, FastxFault::TooLong))),
-    (9, Err(PairFault::Reads(Side::Second, FastxFault::TooLong))),
-    (8, Err(PairFault::Reads(Side::First, FastxFault::TooLong))),
-    (0, Err(PairFault::Reads(Side::First, FastxFault::TooLong))),
-];
-
-#[test]
-fn limits_of_each_source(rt: HostRuntime) -> Result<(), Fail> {
-    let tally = table_of(rt.alloc(), TABLE)?;
-    let selector = Selector::new(rt.alloc(), &tally, Selection::new(2, 66))?;
-    for (limit, answer) in LIMITS {
-        assert_limit(&rt, &selector, *limit, answer);
-    }
-    Ok(())
-}
-
-// Asserts what is returned for both texts with this limit of each source.
-fn assert_limit<H: Abort + AllocGlobal>(
-    rt: &H,
-    selector: &Selector<'_>,
-    limit: u64,
-    answer: &Result<[u64; 5], PairFault>,
-) {
-    assert!(rt; limit <= 100);
-    let selection = PairSelection::new(selector, PairRule::All, limit);
-    let mut row = refused_row(ONE, b">a/2\nCGT\n\n\n", PairFault::Write);
-    row.answer = *answer;
-    if answer.is_ok() {
-        row.firsts = ONE;
-        row.mates = MATE;
-        row.both = BOTH;
-    }
-    assert_interleaved(rt, &row, &selection);
-    assert_apart(rt, &row, &selection);
-}
-
-#[test]
-fn pairs_longer_than_a_block(rt: HostRuntime) -> Result<(), Fail> {
-    let tally = table_of(rt.alloc(), TABLE)?;
-    let selector = Selector::new(rt.alloc(), &tally, Selection::new(2, 0))?;
-    let selection = PairSelection::new(&selector, PairRule::All, 1 << 36);
-    let text = long_record(rt.alloc(), 200_000)?;
-    let mut both = text.clone()?;
-    both.extend_from_slice(text.as_slice())?;
-    let row = Row {
-        first: text.as_slice(),
-        second: text.as_slice(),
-        asked: PairRule::All,
-        inverted: false,
-        answer: Ok([400_014, 2, 2, 399_996, 0]),
-        firsts: text.as_slice(),
-        mates: text.as_slice(),
-        both: both.as_slice(),
-    };
-    assert_interleaved(&rt, &row, &selection);
-    assert_apart(&rt, &row, &selection);
-    Ok(())
 }
 
 // Two pairs, which are read byte by byte. The second one is known to be whole by the end alone.

@@ -1,7 +1,6 @@
 //! Dumps and tables with text made by several threads.
 
 use crate::count_assertions::{assert_items, assert_same};
-use crate::report_rows::tally_of_three;
 use kc_io::{FromBytes, ToVec, ToWrite};
 use kc_report::{
     Dump, MAX_COUNT, ReportFault, read_table, write_dump, write_dump_in_parallel,
@@ -98,29 +97,6 @@ fn dumps_are_those_of_one_thread(rt: HostRuntime) -> Result<(), Fail> {
     assert_dump(&rt, &tally, &lines)?;
     assert_dump(&rt, &tally, &columns.with_bounds(2, 100))?;
     assert_dump(&rt, &tally, &tabs.with_bounds(1 << 50, MAX_COUNT))?;
-    Ok(())
-}
-
-#[test]
-fn a_dump_of_three_rows(rt: HostRuntime) -> Result<(), Fail> {
-    let tally = tally_of_three(rt.alloc())?;
-    for threads in THREADS {
-        let mut sink = ToVec::new(Vec::new(rt.alloc()));
-        write_dump_in_parallel(
-            &rt,
-            rt.alloc(),
-            *threads,
-            &mut sink,
-            &tally,
-            &Dump::in_lines(),
-        )?;
-        assert_items(
-            &rt,
-            *threads,
-            sink.as_slice(),
-            b">2\nAC\n>1\nCG\n>70000\nGT\n",
-        );
-    }
     Ok(())
 }
 

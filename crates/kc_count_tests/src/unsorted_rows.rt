@@ -66,12 +66,3 @@ fn rows_of_two_lists(rt: HostRuntime) -> Result<(), AllocError> {
     assert_packed(&rt, &packed, SORTED);
     Ok(())
 }
-
-#[test]
-fn rows_of_no_list(rt: HostRuntime) -> Result<(), AllocError> {
-    let lists = LooseLists::new(rt.alloc(), 0, 1);
-    assert_same(&rt, "rows", &lists.len(), &0);
-    let packed = lists.into_sorted(rt.alloc())?;
-    assert_packed(&rt, &packed, &[]);
-    Ok(())
-}

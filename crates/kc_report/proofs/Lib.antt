@@ -21,3 +21,4 @@ pub mod AskedLemmas
 pub mod HistoLemmas
 pub mod NumbersLemmas
 pub mod MergingLemmas
+pub mod DumpedTextLemmas

@@ -3,7 +3,7 @@ use Rattle.std.specs.Prelude.{⊤}
 use Rattle.kc_gzip.specs.declared.unpacked_intakes.TakeFault.{TakeFault}
 use Rattle.kc_gzip.specs.declared.unpacked_intakes.TakeFault.TheVariants as taking
 use Rattle.kc_report.specs.declared.report_faults.ReportFault.{ReportFault}
-use Rattle.kc_report.specs.declared.report_faults.ReportFault.TheVariants.{TableTooLong, TableRead, Memory}
+use Rattle.kc_report.specs.declared.report_faults.ReportFault.TheVariants.{TableTooLong, TableRead, Write, Memory}
 use Rattle.kc_report.specs.declared.report_faults.ReportFault.TheVariants.{BrokenGzip, ShortGzip}
 
 -- the fault for each reason why the bytes of a source could not be taken
@@ -18,3 +18,8 @@ taking_fault taking.Memory = Memory
 abbrev pub UnlessMemory : (ReportFault → Type 0) → ReportFault → Type 0
 UnlessMemory Is Memory = ⊤
 UnlessMemory Is fault = Is fault
+
+-- the fault is that of a writer, under no further condition, or `Is` holds for it
+abbrev pub UnlessWrite : (ReportFault → Type 0) → ReportFault → Type 0
+UnlessWrite Is Write = ⊤
+UnlessWrite Is fault = Is fault

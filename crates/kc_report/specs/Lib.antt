@@ -8,6 +8,7 @@ pub mod Lines
 pub mod TableRows
 pub mod RowByRow
 pub mod RowsWritten
+pub mod DumpedText
 pub mod Querying
 pub mod AskedWords
 pub mod Histo

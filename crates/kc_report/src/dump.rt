@@ -143,7 +143,7 @@ pub(crate) fn hand_over_rows<W: Sink>(
 
 // Appends the row to the block, if it is printed. A block without room goes to the writer first.
 #[inline(always)]
-fn put_row<W: Sink>(
+pub(crate) fn put_row<W: Sink>(
     writer: &mut W,
     block: &mut Block,
     k: K,

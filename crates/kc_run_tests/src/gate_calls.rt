@@ -4,7 +4,7 @@ ghost use Rattle.std.specs.FinMap.{empty};
 ghost use Rattle.kc_booking.specs.Setup.{stripe_count, key_bits};
 
 use crate::run_assertions::assert_same;
-use crate::whole_runs::{Case, base_at, made_setup, run_over};
+use crate::whole_runs::{Case, made_setup, run_over};
 use kc_run::{Gate, Numbers, Summary, Tally};
 use kc_stripe::Setup;
 use kc_table::{Counts, PlainCounts, TableFault};
@@ -170,14 +170,14 @@ fn noting_tables<'a, R: Wait + Clock>(
     Ok(tables)
 }
 
-// The bases of so many batches: the words of a batch are its number in two bases and one more base, each of the four.
+// The bases of sixteen batches: the words of a batch are its number in two bases and one more base, each of the four.
 // The hash leaves words unchanged, so the last base is a word's stripe of four, and the first two are its key.
-fn bases_of(alloc: Global, batches: u64) -> Result<Vec<u8>, AllocError> {
+fn bases_of(alloc: Global) -> Result<Vec<u8>, AllocError> {
     let mut bases = Vec::new(alloc);
-    for word in 0..4 * batches.min(16) {
-        bases.push(base_at(word, 4))?;
-        bases.push(base_at(word, 2))?;
-        bases.push(base_at(word, 0))?;
+    for word in 0..64usize {
+        bases.push(b"ACGT"[word / 16 % 4])?;
+        bases.push(b"ACGT"[word / 4 % 4])?;
+        bases.push(b"ACGT"[word % 4])?;
         bases.push(b'N')?;
     }
     Ok(bases)
@@ -207,7 +207,7 @@ fn count_sixteen<S: Summary + Drop, H: Threads + Wait + Clock + Sync + AllocGlob
     workers: u32,
     log: &Log<'_, H>,
 ) -> Result<(), Fail> {
-    let bases = bases_of(rt.alloc(), 16)?;
+    let bases = bases_of(rt.alloc())?;
     let case = Case {
         bases: &bases,
         size: 16,

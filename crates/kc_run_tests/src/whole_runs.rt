@@ -2,7 +2,6 @@
 ghost use Rattle.std.specs.Prelude.{◌≡◌, ◌<◌, ◌≤◌, ◌^◌, All, IfOk, length};
 ghost use Rattle.std.specs.FinMap.{empty};
 ghost use Rattle.kc_word.specs.Shared.{values};
-ghost use Rattle.kc_table.specs.QuotientTable.{counts_in};
 ghost use Rattle.kc_booking.specs.Setup.{stripe_count, key_bits};
 ghost use Rattle.kc_booking.specs.Stripe.{position_sum};
 
@@ -11,13 +10,9 @@ use kc_fastx::SeqRead;
 use kc_hash::{Hash, Matrix};
 use kc_run::{Gate, NoGate, RunFault, Summary, Tally, plain_tables, run};
 use kc_stripe::Setup;
-use kc_table::{Counts, LimitedCounts, QuotientTable, TableFault};
-use kc_tally::{Row, slow_tally};
-use kc_word::slow_count::base_count;
+use kc_table::{Counts, LimitedCounts, TableFault};
+use kc_tally::Row;
 use kc_word::{Batch, K, Rule, clean, cut, cutting_laws};
-use rand_core::SeedableRng;
-use rand_core::utils::NextWord;
-use rand_xoshiro::SplitMix64;
 use std::alloc::{AllocError, Global};
 use std::process::Abort;
 use std::sync::atomic::{AtomicU64, Ordering};
@@ -40,11 +35,6 @@ pub(crate) fn made_setup(k: u32, stripes: u32) -> Result<Setup, Fail> {
         Some(setup) => Ok(setup),
         None => Err(Fail::from("no setup")),
     }
-}
-
-// A read of these bases.
-fn read_of(alloc: Global, bases: &[u8]) -> Result<SeqRead, Fail> {
-    Ok(SeqRead::new(Vec::from_slice(alloc, bases)?, None).ok_or("no read")?)
 }
 
 // The batches of one read, with so many positions each.
@@ -184,80 +174,6 @@ fn the_tally_is_one_for_all_workers_stripes_and_batches(rt: HostRuntime) -> Resu
     Ok(())
 }
 
-// A read that is shorter than a word, for two workers.
-const NOTHING: Case = Case {
-    bases: b"AC",
-    size: 1,
-    workers: 2,
-};
-
-#[test]
-fn no_batches_have_no_rows(rt: HostRuntime) -> Result<(), Fail> {
-    let setup = made_setup(3, 4)?;
-    assert_counted(&rt, &setup, &NOTHING, &NoGate, &[], 0)
-}
-
-// So many bases, each a letter of ACGTACGTN that is drawn.
-fn random_bases(alloc: Global, count: u32) -> Result<Vec<u8>, AllocError> {
-    let mut random = SplitMix64::seed_from_u64(13);
-    let mut bases = Vec::new(alloc);
-    for _ in 0..count {
-        bases.push(b"ACGTACGTN"[random.next_word() as usize % 9])?;
-    }
-    Ok(bases)
-}
-
-// The rows of a read of these bases, straight from the definitions.
-fn rows_by_hand(alloc: Global, bases: &[u8], rule: &Rule) -> Result<Vec<Row>, Fail> {
-    let mut reads = Vec::new(alloc);
-    reads.push(read_of(alloc, bases)?)?;
-    let Some(_) = base_count(&reads) else {
-        return Err(Fail::from("too many bases"));
-    };
-    Ok(slow_tally::tally(alloc, &reads, rule)?)
-}
-
-// Numbers of stripes, positions of a batch, and numbers of workers.
-const STRIPES: &[u32] = &[1, 8, 64];
-
-const SIZES: &[u64] = &[1, 7, 100, 65_536];
-
-const WORKERS: &[u32] = &[1, 2, 8];
-
-// Counts these bases in batches of so many positions, with each number of workers.
-fn count_with_workers<H: Threads + Wait + Abort + Sync + AllocGlobal>(
-    rt: &H,
-    setup: &Setup,
-    bases: &[u8],
-    size: u64,
-    want: &[Row],
-) -> Result<(), Fail> {
-    for workers in WORKERS {
-        let case = Case {
-            bases,
-            size,
-            workers: *workers,
-        };
-        let tally = tally_of_run(rt, setup, &case, &NoGate)?;
-        assert_rows(rt, &tally, want);
-    }
-    Ok(())
-}
-
-#[test]
-fn random_bases_are_counted_as_by_hand(rt: HostRuntime) -> Result<(), Fail> {
-    let bases = random_bases(rt.alloc(), 600)?;
-    let rule = Rule::new(K::new(3).ok_or("no length of a word")?, true, b'!');
-    let want = rows_by_hand(rt.alloc(), &bases, &rule)?;
-    for stripes in STRIPES {
-        let setup = Setup::new(rule, Hash::seeded(6, 1), *stripes).ok_or("no setup")?;
-        for size in SIZES {
-            count_with_workers(&rt, &setup, &bases, *size, &want)?;
-        }
-    }
-    Ok(())
-}
-
 // Tables for this many keys, one for each stripe, which refuse the next one.
 fn refusing_tables(
     alloc: Global,
@@ -274,19 +190,6 @@ fn refusing_tables(
         tables.push(LimitedCounts::new(alloc, setup.key_bits(), keys, refusal))?;
     }
     Ok(tables)
-}
-
-// What a run returns over tables for this many keys each, which refuse the next one.
-fn run_refusing<H: Threads + Wait + Sync + AllocGlobal, G: Gate + Sync>(
-    rt: &H,
-    setup: &Setup,
-    keys: u64,
-    refusal: TableFault,
-    case: &Case<'_>,
-    gate: &G,
-) -> Result<Result<Tally, RunFault>, Fail> {
-    let tables = refusing_tables(rt.alloc(), setup, keys, refusal)?;
-    run_over(rt, rt.alloc(), setup, tables, case, gate)
 }
 
 // Bases whose first key is refused, why, and what is returned: AAA is in stripe 0, and AAC in stripe 1.
@@ -310,7 +213,8 @@ fn fault_of_run<H: Threads + Wait + Sync + AllocGlobal>(
         size: 1,
         workers,
     };
-    match run_refusing(rt, &setup, 0, refusal, &case, &NoGate)? {
+    let tables = refusing_tables(rt.alloc(), &setup, 0, refusal)?;
+    match run_over::<Tally, H, _, _>(rt, rt.alloc(), &setup, tables, &case, &NoGate)? {
         Ok(_) => Err(Fail::from("a tally")),
         Err(fault) => Ok(fault),
     }
@@ -325,83 +229,6 @@ fn a_refused_key_ends_the_run(rt: HostRuntime) -> Result<(), Fail> {
         }
     }
     Ok(())
-}
-
-// So many words of eight bases with an N after each: four different bases, and then AACC.
-fn crowded_bases(alloc: Global, words: u64) -> Result<Vec<u8>, AllocError> {
-    let mut bases = Vec::new(alloc);
-    for word in 0..words {
-        bases.push(base_at(word, 6))?;
-        bases.push(base_at(word, 4))?;
-        bases.push(base_at(word, 2))?;
-        bases.push(base_at(word, 0))?;
-        bases.extend_from_slice(b"AACCN")?;
-    }
-    Ok(bases)
-}
-
-// The base of two bits of a word, those from this one on.
-pub(crate) fn base_at(word: u64, shift: u32) -> u8
-    requires { shift < 64 }
-{
-    match (word >> shift) % 4 {
-        0 => b'A',
-        1 => b'C',
-        2 => b'G',
-        _ => b'T',
-    }
-}
-
-// A table of 2^8 slots at most, for each stripe, if the keys have 16 bits.
-fn small_tables(alloc: Global, setup: &Setup) -> Result<Vec<QuotientTable>, Fail>
-    ensures one_each { IfOk result (λ tables. length tables.items ≡ stripe_count setup.now) }
-    ensures tables { IfOk result (λ tables.
-        All (λ table. (counts_in table.slots ≡ empty) × (table.bits ≡ key_bits setup.now)) tables.items) }
-{
-    let bits = setup.key_bits();
-    if bits != 16 {
-        return Err(Fail::from("another setup"));
-    }
-    let mut tables = Vec::new(alloc);
-    for _ in 0..setup.stripes() {
-        tables.push(QuotientTable::new(alloc, bits, 8, 8)?)?;
-    }
-    Ok(tables)
-}
-
-// The result of a run over one small table and so many words with one place.
-fn count_crowded<H: Threads + Wait + Sync + AllocGlobal>(
-    rt: &H,
-    words: u64,
-) -> Result<Result<Tally, RunFault>, Fail> {
-    let setup = made_setup(8, 1)?;
-    let bases = crowded_bases(rt.alloc(), words)?;
-    let case = Case {
-        bases: &bases,
-        size: 9,
-        workers: 2,
-    };
-    let tables = small_tables(rt.alloc(), &setup)?;
-    run_over(rt, rt.alloc(), &setup, tables, &case, &NoGate)
-}
-
-#[test]
-fn a_stripe_is_full_at_the_64th_word_of_one_place(rt: HostRuntime) -> Result<(), Fail> {
-    match count_crowded(&rt, 63)? {
-        Ok(tally) => {
-            assert_same(&rt, "rows", &tally.row_count(), &63);
-            assert_same(&rt, "words once", &tally.bin(1), &63);
-            assert_same(&rt, "in all", &tally.total(), &63);
-        }
-        Err(_) => return Err(Fail::from("no tally")),
-    }
-    match count_crowded(&rt, 64)? {
-        Ok(_) => Err(Fail::from("a tally")),
-        Err(fault) => {
-            assert_same(&rt, "a fault", &fault, &RunFault::Full(0));
-            Ok(())
-        }
-    }
 }
 
 // A gate that holds the worker that comes first until another worker has booked a batch.
@@ -465,115 +292,6 @@ fn two_workers_book_at_once(rt: HostRuntime) -> Result<(), Fail> {
     };
     assert_counted(&rt, &setup, &FOUR_BY_TWO, &gate, FOUR, 4)?;
     assert_same(&rt, "released", &gate.released.load(Ordering::SeqCst), &1);
-    Ok(())
-}
-
-// A gate that counts the calls, in four bits for each batch, and the calls after a batch that was not begun once.
-#[derive(Drop)]
-struct Told {
-    before: AtomicU64,
-    after: AtomicU64,
-    unbegun: AtomicU64,
-}
-
-impl Told {
-    fn nothing() -> Told {
-        Told {
-            before: AtomicU64::new(0),
-            after: AtomicU64::new(0),
-            unbegun: AtomicU64::new(0),
-        }
-    }
-}
-
-// Asserts which calls the gate counted before and after batches, and that each batch was begun once.
-fn assert_told<H: Abort>(rt: &H, gate: &Told, before: u64, after: u64) {
-    let order = Ordering::SeqCst;
-    assert_same(rt, "before", &gate.before.load(order), &before);
-    assert_same(rt, "after", &gate.after.load(order), &after);
-    assert_same(rt, "unbegun", &gate.unbegun.load(order), &0);
-}
-
-// Below the four bits of a batch.
-fn bits_below(batch: u64) -> u64
-    ensures { result < 64 }
-{
-    4 * (batch % 16)
-}
-
-impl Gate for Told {
-    fn before_book(&self, _worker: u32, batch: u64) {
-        self.before
-            .fetch_add(1 << bits_below(batch), Ordering::SeqCst);
-    }
-
-    fn after_book(&self, _worker: u32, batch: u64) {
-        if (self.before.load(Ordering::SeqCst) >> bits_below(batch)) % 16 != 1 {
-            self.unbegun.fetch_add(1, Ordering::SeqCst);
-        }
-        self.after
-            .fetch_add(1 << bits_below(batch), Ordering::SeqCst);
-    }
-}
-
-// Counts eight batches with this many workers. One worker has rounds of two.
-fn tell_of_eight<H: Threads + Wait + Sync + AllocGlobal>(
-    rt: &H,
-    workers: u32,
-    gate: &Told,
-) -> Result<(), Fail> {
-    let setup = made_setup(3, 4)?;
-    let case = Case {
-        bases: b"AAAAAAAAAA",
-        size: 1,
-        workers,
-    };
-    tally_of_run(rt, &setup, &case, gate)?;
-    Ok(())
-}
-
-#[test]
-fn the_gate_is_told_of_each_batch_before_and_after(rt: HostRuntime) -> Result<(), Fail> {
-    for workers in 1..=2 {
-        let gate = Told::nothing();
-        tell_of_eight(&rt, workers, &gate)?;
-        assert_told(&rt, &gate, 0x1111_1111, 0x1111_1111);
-    }
-    Ok(())
-}
-
-// Bases of one batch of two words, over two stripes whose tables take one key each, and how often the gate is called
-// after it: AAA and AAC are in the two stripes, AAG and AGA in the first one, AAC and ACC in the second one.
-const ONE_KEY_EACH: &[(&[u8], u64)] = &[(b"AAAC", 1), (b"AAGA", 0), (b"AACC", 0)];
-
-// Counts one batch of these bases over two stripes whose tables take one key each.
-fn tell_of_one<H: Threads + Wait + Sync + AllocGlobal>(
-    rt: &H,
-    bases: &[u8],
-    gate: &Told,
-) -> Result<bool, Fail> {
-    let setup = made_setup(3, 2)?;
-    let case = Case {
-        bases,
-        size: 2,
-        workers: 1,
-    };
-    match run_refusing(rt, &setup, 1, TableFault::Full, &case, gate)? {
-        Ok(_) => Ok(true),
-        Err(_) => Ok(false),
-    }
-}
-
-// For a batch that is refused the gate was called before it, and not after it: so the gate is called before the first
-// booking of a batch, and after the last.
-#[test]
-fn the_gate_is_told_of_a_refused_batch_only_before(rt: HostRuntime) -> Result<(), Fail> {
-    for (bases, after) in ONE_KEY_EACH {
-        let gate = Told::nothing();
-        let is_counted = tell_of_one(&rt, *bases, &gate)?;
-        assert_same(&rt, "counted", &is_counted, &(*after == 1));
-        assert_told(&rt, &gate, 1, *after);
-    }
     Ok(())
 }
 

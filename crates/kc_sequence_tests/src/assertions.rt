@@ -13,13 +13,13 @@ pub fn assert_same<H: Abort, W: Display + Drop, T: PartialEq + Debug>(
     assert_eq!(rt; got, want, "{what}");
 }
 
-/// Asserts that bytes are the wanted ones.
-pub fn assert_bytes<H: Abort, W: Display + Drop>(rt: &H, what: W, got: &[u8], want: &[u8]) {
-    assert_eq!(rt; got, want, "{what}");
-}
-
-/// Asserts that numbers are the wanted ones.
-pub fn assert_numbers<H: Abort, W: Display + Drop>(rt: &H, what: W, got: &[u64], want: &[u64]) {
+/// Asserts that items are the wanted ones.
+pub fn assert_items<H: Abort, W: Display + Drop, T: PartialEq + Debug>(
+    rt: &H,
+    what: W,
+    got: &[T],
+    want: &[T],
+) {
     assert_eq!(rt; got, want, "{what}");
 }
 

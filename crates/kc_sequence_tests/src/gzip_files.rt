@@ -1,9 +1,11 @@
 //! Files that gzip's and zlib's own writers made, and what becomes of them when they are cut or changed.
+use crate::assertions::{assert_items, assert_same};
 use kc_gzip::{Gunzip, GunzipFault, GzipFault, Intake, TakeFault, crc32, gunzip};
-use kc_io::{Failed, FromRead, Source};
+use kc_io::{FromRead, Source};
 use std::alloc::Global;
 use std::io;
 use std::io::Read;
+use std::process::Abort;
 use std::test::Fail;
 
 // what a file holds, its bytes, and its text
@@ -69,29 +71,6 @@ fn a_file_of_one_member(rt: HostRuntime) -> Result<(), Fail> {
     Ok(())
 }
 
-#[test]
-fn files_say_their_texts(rt: HostRuntime) -> Result<(), Fail> {
-    for (name, bytes, text) in FILES.iter() {
-        let found = gunzip(rt.alloc(), bytes)?;
-        assert!(rt; found.as_slice() == *text, "{name}");
-    }
-    Ok(())
-}
-
-#[test]
-fn fronts_are_cut_short(rt: HostRuntime) -> Result<(), Fail> {
-    for (name, bytes, _) in FILES.iter() {
-        if *name == "two members and zeros" {
-            continue;
-        }
-        for end in 1..bytes.len() {
-            let fault = gunzip(rt.alloc(), &bytes[..end]).err();
-            assert!(rt; fault == Some(GzipFault::Short), "{name}, {end}");
-        }
-    }
-    Ok(())
-}
-
 // Reads of four seeds, as zlib at level 9 writes them.
 static SAMPLE: &[u8] =
     b"\x1f\x8b\x08\x00\x00\x00\x00\x00\x00\xffU\x919\x12\xc30\x08E{]\x8324Y**3\xcc\x88\x0bp\x12\
@@ -112,33 +91,8 @@ static SAMPLE_TEXT: &[u8] =
         GCTTCGTTGACTAGCAACCCAGGGCTATAGCTATT\x0a+\x0a#F#F#F#F#FFFFFFFFFFFFFFF:F::#FF:FFFFFF#F#FF,FF\
         F##,FFFFFFFFFF\x0a";
 
-// The results of zlib for the sample with one bit flipped, byte by byte, the lowest bit first: `o`, it is the same
-// text; `b`, it is broken; `s`, it is cut short.
-static TURNED: &[u8] =
-    b"bbbbbbbbbbbbbbbbbbbbbbbbobsbbbbboooooooooooooooooooooooooooooooooooooooooooooooobbbbbbbbbbbb\
-        bbbbbbbbbbbbbbbbbbbbbbbbbbbbbbbbbbbbbbbbbbbbbbbbbbbbbbbbbbbbbbbbbbbbbbbbbbbbbbbbbbbbbbbbbb\
-        bbbbbbbbbbbbbbbbbbbbbbbbbbbbbbbbbbbbbbbbbbbbbbbbbbbbbbbbbbbbbbbbbbbbbbbbbbbbbbbbbbbbbbbbbb\
-        bbbbbbbbbbbbbbbbbbbbbbbbbbbbbbbbbbbbbbbbbbbbbbbbbbbbbbbbbbbbbbbbbbbbbbbbbbbbbbbbbbbbbbbbbb\
-        bbbbbbbbbbbbbbbbbbbbbbbbbbbbbbbbbbbbbbbbbbbbbbbbbbbbbbbbbbbbbbbbbbbbbbbbbbbbbbbbbbbbbbbbbb\
-        bbbbbbbbbbbbbbbbbbbbbbbbbbbbbbbbbbbbbbbbbbbbbbbbbbbbbbbbbbbbbbbbbbbbbbbbbbbbbobbbbbbbbbbbb\
-        bbbbbbbbbbbbbbbbbbbbbbbbbbbbbbbbbbbbbbbbbbbbbbbbbbbbbbbbbbbbbbbbbbbbbbbbbbbbbbbbbbbbbbbbbb\
-        bbbbbbbbbbbbbbbbbbbbbbbbbbbbbbbbbbbbbbbbbbbbbbbbbbbbbbbbbbbbbbbbbbbbbbbbbbbbbbbbbbbbbbbbbb\
-        bbbbbbbbbbbbbbbbbbbbbbbbbbbbbbbbbbbbbbbbbbbbbbbbbbbbbbbbbbbbbbbbbbbbbbbbbbbbbbbbbbbbbbbbbb\
-        bbbbbbbbbbbbbbbbbbbbbbbbbbbbbbbbbbbbbbbbbbbbbbbbbbbbbbbbbbbbbbbbbbbbbbbbbbbbbbbbbbbbbbbbbb\
-        bbbbbbbbbbbbbbbbbbbbbbbbbbbbbbbbbbbbbbbbbbbbbbbbbbbbbbbbbbbbbbbbbbbbbbbbbbbbbbbbbbbbbbbbbb\
-        bbbbbbbbbbbbbbbbbbbbbbbbbbbbbbbbbbbbbbbbbbbbbbbbbbbbbbbbbbbbbbbbbbbbbbbbbbbbbbbbbbbbbbbbbb\
-        bbbbbbbbbbbbbbbbbbbbbbbbbbbbbbbbbbbbbbbbbbbbbbbbbbbbbbbbbbbbbbbbbbbbbbbbbbbbbbbbbbbbbbbbbb\
-        bbbbbbbbbbbbbbbbbbbbbbbbbobbbbbbbbbbbbbbbbbbbbbbbbbbbbbbbbbbbbbbbbbbbbbbbbbbbbbbbbbbbbbbbb\
-        bbbbbbbbbbbbbbbbbbbbbbbbbbbbbbbbbbbbbbbbbbbbbbbbbbbbbbbbbbbbbbbbbbbbbbbbbbbbbbbbbbbbbbbbbb\
-        bbbbbbbbbbbbbbbbbbbbbbbbbbbbbbbbbbbbbbbbbbbbbbbbbbbbbbbbbbbbbbbbbbbbbbbbbbbbbbbbbbbbbbbbbb\
-        bbbbbbbbbbbbbbbbbbbbbbbbbbbbbbbbbbbbbbbbbbbbbbbbbbbbbbbbbbbbbbbbbbbbbbbbbbbbbbbbbbbbbbbbbb\
-        bbbbbbbbbbbbbbbbbbbbbbbbbbbbbbbbbbbbbbbbbbbbbbbbbbbbbbbbbbbbbbbbbbbbbbbbbbbbbbbbbbbbbbbbbb\
-        bbbbbbbbbbbbbbbbbbbbbbbbbbbbbbbbbbbbbbbbbbbbbbbbbbbbbbbbbbbbbbbbbbbbbbbbbbbbbbbbbbbbbbbbbb\
-        bbbbbbbbbbbbbbbbbbbbbbbbbbbbbbbbbbbbbbbbbbbbbbbbbbbbbbbbbbbbbbbbbbbbbbbbbbsbbbbbbbbbbbssss\
-        bbsssbbbobssssbbssssssbbbbbbbbbbbbbbbbbbbbbbbbbbbbbbbbbbbbbbbbbbbbbbbbbbbbbbbbbbbbbbbb";
-
 // C, 32,767 times A, and three bytes from 32,768 back; and the same with one A less, so nothing is that far back.
-static FARTHEST: &[u8] =
+const FARTHEST: &[u8] =
     b"\x1f\x8b\x08\x00\x00\x00\x00\x00\x00\xffsv\x1c\x05\xa3`\x14\x8c\x82Q0\x0aF\xc1(\x18\x05\xa3`\
         \x14\x8c\x82Q0\x0aF\xc1(\x18\x05\xa3`\x14\x8c\x82Q0\x0aF\xc1(\x18\x05\xa3`\x14\x8c\x82Q0\
         \x0aF\xc1(\x18\x05\xa3`\x14\x8c\x82Q0\x0aF\xc1(\x18\x05\xa3`\x14\x8c\x82Q0\x0aF\xc1(\x18\
@@ -148,7 +102,7 @@ static FARTHEST: &[u8] =
         \xa3`\x14\x8c\x82Q0\x0aF\xc1(\x18\x05\xa3`\x14\x8c\x82Q0\x0aF\xc1(\x18\x05\xa3`\x14\x8c\
         \x82Q0\x0aF\x01\xf0\xfe\x7f\x006\xfd\x1b\xfe\x03\x80\x00\x00";
 
-static TOO_FAR: &[u8] =
+const TOO_FAR: &[u8] =
     b"\x1f\x8b\x08\x00\x00\x00\x00\x00\x00\xffsv\x1c\x05\xa3`\x14\x8c\x82Q0\x0aF\xc1(\x18\x05\xa3`\
         \x14\x8c\x82Q0\x0aF\xc1(\x18\x05\xa3`\x14\x8c\x82Q0\x0aF\xc1(\x18\x05\xa3`\x14\x8c\x82Q0\
         \x0aF\xc1(\x18\x05\xa3`\x14\x8c\x82Q0\x0aF\xc1(\x18\x05\xa3`\x14\x8c\x82Q0\x0aF\xc1(\x18\
@@ -191,303 +145,175 @@ impl Read for Drops<'_> {
     }
 }
 
-// The text from the source of such a reader by reads of 1,000 bytes, and why it fails.
-fn gunzip_drops(alloc: Global, drops: Drops) -> Result<(Vec<u8>, Option<GunzipFault>), Fail> {
-    let mut source = Gunzip::new(alloc, FromRead::new(drops))?;
+// A source of such a reader.
+fn source_of(left: &[u8], most: usize, fails_with: usize) -> FromRead<Drops<'_>> {
+    FromRead::new(Drops {
+        left,
+        most,
+        fails_with,
+    })
+}
+
+// Appends the bytes of one read, and returns whether there were some.
+fn read_some<S: Source>(source: &mut S, text: &mut Vec<u8>) -> Result<bool, Fail> {
+    let mut buffer = [0; 100];
+    let Ok(count) = source.read(&mut buffer) else {
+        return Ok(false);
+    };
+    text.extend_from_slice(&buffer[..count])?;
+    Ok(count > 0)
+}
+
+// The text from a source by reads of 100 bytes, and why it fails.
+fn gunzip_all(
+    alloc: Global,
+    source: FromRead<Drops<'_>>,
+) -> Result<(Vec<u8>, Option<GunzipFault>), Fail> {
+    let mut source = Gunzip::new(alloc, source)?;
     let mut text = Vec::new(alloc);
-    let mut buffer = [0; 1_000];
     for _ in 0..100_000 {
-        match source.read(&mut buffer) {
-            Ok(0) => return Ok((text, None)),
-            Ok(count) => text.extend_from_slice(&buffer[..count])?,
-            Err(Failed) => return Ok((text, source.fault())),
+        if !read_some(&mut source, &mut text)? {
+            break;
         }
     }
     Ok((text, source.fault()))
 }
 
-// The same for these bytes, so many at a time.
-fn gunzip_bytes(
+// Appends what one call takes, and returns whether more may come.
+fn take_some<S: Source>(
+    intake: &mut Intake,
+    source: &mut S,
+    text: &mut Vec<u8>,
+) -> Result<Result<bool, TakeFault>, Fail> {
+    let taken = intake.fill(source);
+    if taken == Ok(true) {
+        text.extend_from_slice(intake.as_slice())?;
+        let count = intake.as_slice().len();
+        intake.use_up(count);
+    }
+    Ok(taken)
+}
+
+// What an intake takes of a source, call by call, and why it stops before the end.
+fn take_all(
     alloc: Global,
+    mut source: FromRead<Drops<'_>>,
+    limit: u64,
+) -> Result<(Vec<u8>, Option<TakeFault>), Fail> {
+    let mut intake = Intake::new(alloc, limit)?;
+    let mut text = Vec::new(alloc);
+    let mut ended = Ok(true);
+    for _ in 0..100_000 {
+        ended = take_some(&mut intake, &mut source, &mut text)?;
+        if ended != Ok(true) {
+            break;
+        }
+    }
+    Ok((text, ended.err()))
+}
+
+// Asserts that these bytes have this text, read in parts of this size.
+fn assert_text<H: AllocGlobal + Abort>(
+    rt: &H,
+    name: &str,
     bytes: &[u8],
     most: usize,
-) -> Result<(Vec<u8>, Option<GunzipFault>), Fail> {
-    gunzip_drops(
-        alloc,
-        Drops {
-            left: bytes,
-            most,
-            fails_with: usize::MAX,
-        },
-    )
+    text: &[u8],
+) -> Result<(), Fail> {
+    let (found, fault) = gunzip_all(rt.alloc(), source_of(bytes, most, usize::MAX))?;
+    assert_same(rt, name, &fault, &None);
+    assert_items(rt, name, found.as_slice(), text);
+    let (found, fault) = take_all(rt.alloc(), source_of(bytes, most, usize::MAX), 1_000)?;
+    assert_same(rt, name, &fault, &None);
+    assert_items(rt, name, found.as_slice(), text);
+    Ok(())
 }
 
-// `o`, this is the text; `x`, it is another; else why there is none.
-fn verdict(text: &[u8], fault: Option<GzipFault>) -> u8 {
-    match fault {
-        None if text == SAMPLE_TEXT => b'o',
-        None => b'x',
-        Some(GzipFault::Broken) => b'b',
-        Some(GzipFault::Short) => b's',
-        Some(GzipFault::Memory) => b'm',
-    }
-}
-
-// The sample with one bit turned.
-fn with_flipped_bit(alloc: Global, place: usize, bit: u32) -> Result<Vec<u8>, Fail> {
-    let mut bytes = Vec::from_slice(alloc, SAMPLE)?;
-    if let Some(byte) = bytes.get_mut(place) {
-        *byte ^= 1u8.wrapping_shl(bit);
-    }
-    Ok(bytes)
-}
+// Sources that are no gzip, and have their own bytes.
+const OTHERS: &[&[u8]] = &[b"", b"\x1f", b"\x8b\x1f", b"\x1f\x1f\x8b", b"A\n"];
 
 #[test]
-fn sources_tell_their_texts_in_parts_of_any_size(rt: HostRuntime) -> Result<(), Fail> {
-    for (name, bytes, text) in FILES.iter() {
-        for most in [1, 2, 3, 50, 1_000] {
-            let (found, fault) = gunzip_bytes(rt.alloc(), bytes, most)?;
-            assert!(rt; fault.is_none(), "{name}");
-            assert!(rt; found.as_slice() == *text, "{name}");
+fn sources_have_their_texts_in_parts_of_any_size(rt: HostRuntime) -> Result<(), Fail> {
+    for most in [1, 3, 1_000] {
+        for (name, bytes, text) in FILES.iter() {
+            assert_text(&rt, *name, *bytes, most, *text)?;
+        }
+        for bytes in OTHERS {
+            assert_text(&rt, "no gzip", *bytes, most, *bytes)?;
         }
     }
     Ok(())
 }
 
-#[test]
-fn a_source_that_is_no_gzip_is_handed_through(rt: HostRuntime) -> Result<(), Fail> {
-    let sources: [&[u8]; 6] = [
-        b"",
-        b"\x1f",
-        b"\x8b\x1f",
-        b"\x1f\x1f\x8b",
-        b"A\n",
-        SAMPLE_TEXT,
-    ];
-    for bytes in sources {
-        for most in [1, 1_000] {
-            let (found, fault) = gunzip_bytes(rt.alloc(), bytes, most)?;
-            assert!(rt; fault.is_none());
-            assert!(rt; found.as_slice() == bytes);
-        }
-    }
+// Asserts why these bytes have no text, and what is taken of it.
+fn assert_refused<H: AllocGlobal + Abort>(
+    rt: &H,
+    bytes: &[u8],
+    fails_with: usize,
+    fault: (GunzipFault, TakeFault),
+) -> Result<(), Fail> {
+    let (unzipped, taken) = fault;
+    let (found, why) = gunzip_all(rt.alloc(), source_of(bytes, 1, fails_with))?;
+    assert_same(rt, bytes.len(), &why, &Some(unzipped));
+    assert_same(rt, bytes.len(), &SAMPLE_TEXT.starts_with(&found), &true);
+    let (found, why) = take_all(rt.alloc(), source_of(bytes, 1, fails_with), 1_000)?;
+    assert_same(rt, bytes.len(), &why, &Some(taken));
+    assert_same(rt, bytes.len(), &SAMPLE_TEXT.starts_with(&found), &true);
     Ok(())
 }
 
 #[test]
-fn each_turned_bit_is_seen_as_zlib_sees_it(rt: HostRuntime) -> Result<(), Fail> {
-    for (index, expected) in TURNED.iter().enumerate() {
-        let bytes = with_flipped_bit(rt.alloc(), index / 8, (index % 8) as u32)?;
-        let found = match gunzip(rt.alloc(), &bytes) {
-            Ok(text) => verdict(&text, None),
-            Err(fault) => verdict(b"", Some(fault)),
-        };
-        assert!(rt; found == *expected, "bit {index}");
-    }
-    Ok(())
-}
-
-#[test]
-fn a_source_sees_turned_bits_too(rt: HostRuntime) -> Result<(), Fail> {
-    for (index, expected) in TURNED.iter().enumerate() {
-        // without its first two bytes it is no gzip
-        if index < 16 || index % 5 > 0 {
-            continue;
-        }
-        let bytes = with_flipped_bit(rt.alloc(), index / 8, (index % 8) as u32)?;
-        let found = match gunzip_bytes(rt.alloc(), &bytes, 70)? {
-            (text, None) => verdict(&text, None),
-            (_, Some(GunzipFault::Gzip(fault))) => verdict(b"", Some(fault)),
-            (_, Some(_)) => b'?',
-        };
-        assert!(rt; found == *expected, "bit {index}");
-    }
-    Ok(())
-}
-
-#[test]
-fn a_source_that_ends_early_is_cut_short(rt: HostRuntime) -> Result<(), Fail> {
+fn a_source_that_is_cut_short_or_broken_or_fails(rt: HostRuntime) -> Result<(), Fail> {
+    let short = (GunzipFault::Gzip(GzipFault::Short), TakeFault::Short);
     for end in 2..SAMPLE.len() {
-        let (_, fault) = gunzip_bytes(rt.alloc(), &SAMPLE[..end], 100)?;
-        assert!(rt; fault == Some(GunzipFault::Gzip(GzipFault::Short)), "{end}");
+        assert_refused(&rt, &SAMPLE[..end], usize::MAX, short)?;
     }
-    Ok(())
+    for fails_with in [0, 12, SAMPLE.len()] {
+        assert_refused(
+            &rt,
+            SAMPLE,
+            fails_with,
+            (GunzipFault::Read, TakeFault::Read),
+        )?;
+    }
+    // the text is all there; its check sum is wrong
+    let mut bytes = SAMPLE.to_vec(rt.alloc())?;
+    let place = bytes.len() - 5;
+    bytes[place] ^= 1;
+    let broken = (GunzipFault::Gzip(GzipFault::Broken), TakeFault::Broken);
+    assert_refused(&rt, &bytes, usize::MAX, broken)
 }
 
-#[test]
-fn a_read_that_fails_is_told(rt: HostRuntime) -> Result<(), Fail> {
-    for fails_with in 0..SAMPLE.len() + 1 {
-        let drops = Drops {
-            left: SAMPLE,
-            most: 1,
-            fails_with,
-        };
-        let (_, fault) = gunzip_drops(rt.alloc(), drops)?;
-        assert!(rt; fault == Some(GunzipFault::Read), "{fails_with}");
-    }
-    Ok(())
-}
+// Bytes, how many they have when they are decompressed, their check sum, and why there are no more.
+const FAR: &[(&[u8], usize, u32, Option<GunzipFault>)] = &[
+    (FARTHEST, 32_771, 4_263_247_158, None),
+    (
+        TOO_FAR,
+        32_767,
+        1_100_036_102,
+        Some(GunzipFault::Gzip(GzipFault::Broken)),
+    ),
+];
 
 #[test]
 fn copies_reach_back_as_far_as_the_window(rt: HostRuntime) -> Result<(), Fail> {
-    let (text, fault) = gunzip_bytes(rt.alloc(), FARTHEST, 100)?;
-    assert!(rt; fault.is_none());
-    assert_eq!(rt; text.len(), 32_771);
-    assert_eq!(rt; crc32(&text), 4_263_247_158);
-    let (_, fault) = gunzip_bytes(rt.alloc(), TOO_FAR, 100)?;
-    assert!(rt; fault == Some(GunzipFault::Gzip(GzipFault::Broken)));
-    Ok(())
-}
-
-// A reader of all these bytes, so many at a time.
-fn reader_of(bytes: &[u8], most: usize) -> Drops<'_> {
-    Drops {
-        left: bytes,
-        most,
-        fails_with: usize::MAX,
-    }
-}
-
-// What an intake takes from such a reader, call by call, and why it stops before the end.
-fn take_all(alloc: Global, drops: Drops, limit: u64) -> Result<(Vec<u8>, Option<TakeFault>), Fail> {
-    let mut source = FromRead::new(drops);
-    let mut intake = Intake::new(alloc, limit)?;
-    let mut text = Vec::new(alloc);
-    for _ in 0..100_000 {
-        match intake.fill(&mut source) {
-            Ok(true) => {
-                text.extend_from_slice(intake.as_slice())?;
-                let count = intake.as_slice().len();
-                intake.use_up(count);
-            }
-            Ok(false) => return Ok((text, None)),
-            Err(fault) => return Ok((text, Some(fault))),
-        }
-    }
-    Ok((text, Some(TakeFault::Memory)))
-}
-
-// The length of the text of such a reader, or why it does not all come.
-fn skip_all(alloc: Global, drops: Drops, limit: u64) -> Result<Result<u64, TakeFault>, Fail> {
-    let mut source = FromRead::new(drops);
-    let intake = Intake::new(alloc, limit)?;
-    Ok(intake.skip_rest(&mut source))
-}
-
-#[test]
-fn an_intake_takes_what_the_bytes_say(rt: HostRuntime) -> Result<(), Fail> {
-    let alloc = rt.alloc();
-    for (name, bytes, text) in FILES.iter() {
-        for most in [1, 3, 1_000] {
-            let (found, fault) = take_all(alloc, reader_of(bytes, most), 1_000)?;
-            assert!(rt; fault.is_none(), "{name}");
-            assert!(rt; found.as_slice() == *text, "{name}");
-            let count = skip_all(alloc, reader_of(bytes, most), 1_000)?;
-            assert!(rt; count == Ok(text.len() as u64), "{name}");
-        }
+    for (bytes, len, sum, want) in FAR {
+        let (text, fault) = gunzip_all(rt.alloc(), source_of(*bytes, 100, usize::MAX))?;
+        assert_same(&rt, *len, &fault, want);
+        assert_same(&rt, *len, &text.len(), len);
+        assert_same(&rt, *len, &crc32(&text), sum);
     }
     Ok(())
 }
 
-#[test]
-fn an_intake_takes_other_bytes_as_they_are(rt: HostRuntime) -> Result<(), Fail> {
-    let alloc = rt.alloc();
-    let sources: [&[u8]; 5] = [b"", b"\x1f", b"\x8b\x1f", b"A\n", SAMPLE_TEXT];
-    for bytes in sources {
-        for most in [1, 1_000] {
-            let (found, fault) = take_all(alloc, reader_of(bytes, most), 1_000)?;
-            assert!(rt; fault.is_none());
-            assert!(rt; found.as_slice() == bytes);
-            let count = skip_all(alloc, reader_of(bytes, most), 1_000)?;
-            assert!(rt; count == Ok(bytes.len() as u64));
-        }
-    }
-    Ok(())
-}
-
+// The sample's text has 512 bytes.
 #[test]
 fn an_intake_takes_as_many_bytes_as_its_limit(rt: HostRuntime) -> Result<(), Fail> {
-    let alloc = rt.alloc();
     for bytes in [SAMPLE, SAMPLE_TEXT] {
-        for most in [1, 1_000] {
-            let (found, fault) = take_all(alloc, reader_of(bytes, most), 512)?;
-            assert!(rt; fault.is_none() && found.as_slice() == SAMPLE_TEXT);
-            let (_, fault) = take_all(alloc, reader_of(bytes, most), 511)?;
-            assert!(rt; fault == Some(TakeFault::TooLong));
-            assert!(rt; skip_all(alloc, reader_of(bytes, most), 512)? == Ok(512));
-            assert!(rt; skip_all(alloc, reader_of(bytes, most), 511)? == Err(TakeFault::TooLong));
-        }
+        let (_, fault) = take_all(rt.alloc(), source_of(bytes, 100, usize::MAX), 512)?;
+        assert_same(&rt, 512, &fault, &None);
+        let (_, fault) = take_all(rt.alloc(), source_of(bytes, 100, usize::MAX), 511)?;
+        assert_same(&rt, 511, &fault, &Some(TakeFault::TooLong));
     }
-    Ok(())
-}
-
-#[test]
-fn bytes_that_are_not_used_stay_in_front(rt: HostRuntime) -> Result<(), Fail> {
-    let mut source = FromRead::new(reader_of(b">r1\nACGT\n", 3));
-    let mut intake = Intake::new(rt.alloc(), 9)?;
-    assert!(rt; intake.fill(&mut source) == Ok(true));
-    assert_eq!(rt; intake.as_slice(), b">r1".as_slice());
-    intake.use_up(1);
-    assert!(rt; intake.fill(&mut source) == Ok(true));
-    assert_eq!(rt; intake.as_slice(), b"r1\nAC".as_slice());
-    intake.use_up(3);
-    assert!(rt; intake.skip_rest(&mut source) == Ok(3));
-    Ok(())
-}
-
-#[test]
-fn an_intake_fails_where_a_read_does_and_stays_so(rt: HostRuntime) -> Result<(), Fail> {
-    let alloc = rt.alloc();
-    for fails_with in [0, 1, 100, SAMPLE.len()] {
-        let mut source = FromRead::new(Drops {
-            left: SAMPLE,
-            most: 1,
-            fails_with,
-        });
-        let mut intake = Intake::new(alloc, 1_000)?;
-        let mut fault = None;
-        for _ in 0..1_000 {
-            match intake.fill(&mut source) {
-                Ok(true) => {}
-                Ok(false) => break,
-                Err(why) => {
-                    fault = Some(why);
-                    break;
-                }
-            }
-        }
-        assert!(rt; fault == Some(TakeFault::Read), "{fails_with}");
-        let front = intake.as_slice();
-        assert!(rt; SAMPLE_TEXT.starts_with(front), "{fails_with}");
-        assert!(rt;
-            intake.fill(&mut source) == Err(TakeFault::Read),
-            "{fails_with}"
-        );
-        assert!(rt;
-            intake.skip_rest(&mut source) == Err(TakeFault::Read),
-            "{fails_with}"
-        );
-    }
-    Ok(())
-}
-
-#[test]
-fn an_intake_sees_that_gzip_is_cut_short_or_broken(rt: HostRuntime) -> Result<(), Fail> {
-    let alloc = rt.alloc();
-    for end in [2, 100, SAMPLE.len() - 1] {
-        let cut = &SAMPLE[..end];
-        let (_, fault) = take_all(alloc, reader_of(cut, 1), 1_000)?;
-        assert!(rt; fault == Some(TakeFault::Short), "{end}");
-        assert!(rt;
-            skip_all(alloc, reader_of(cut, 50), 1_000)? == Err(TakeFault::Short),
-            "{end}"
-        );
-    }
-    // the text is all there; its check sum is wrong
-    let bytes = with_flipped_bit(alloc, SAMPLE.len() - 5, 0)?;
-    let (found, fault) = take_all(alloc, reader_of(&bytes, 1), 1_000)?;
-    assert!(rt; fault == Some(TakeFault::Broken));
-    assert!(rt; found.as_slice() == SAMPLE_TEXT);
-    assert!(rt; skip_all(alloc, reader_of(&bytes, 50), 1_000)? == Err(TakeFault::Broken));
     Ok(())
 }

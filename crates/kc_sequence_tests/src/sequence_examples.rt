@@ -47,7 +47,7 @@ fn a_word_counts_under_its_canonical_form(rt: HostRuntime) -> Result<(), Fail> {
 fn reads_are_cleaned_and_cut(rt: HostRuntime) -> Result<(), Fail> {
     let alloc = rt.alloc();
     let k = k_of(3)?;
-    let reads = reads_of(alloc, &[b"ACGTA"])?;
+    let reads = reads_of(alloc, b">r\nACGTA\n")?;
     let rule = Rule::new(k, true, b'!');
     let mut pieces = Vec::new(alloc);
     for read in &reads {

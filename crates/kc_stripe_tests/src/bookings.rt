@@ -1,11 +1,11 @@
-//! Batches that are booked in a stripe, over a `BTreeMap` and over a table.
-use crate::sample_batches::{book_at, count_in, cuts_of_three, made_setup, plain_stripe};
+//! Batches that are booked in a stripe, and refused.
+use crate::sample_batches::{count_in, cuts_of_three, made_setup, plain_stripe};
 use crate::stripe_assertions::{assert_items, assert_same};
-use kc_stripe::{BookFault, Cut, Setup, Stripe};
+use kc_stripe::{BookFault, Cut, Stripe};
 use kc_table::{Counts, LimitedCounts, PlainCounts, QuotientTable, TableFault};
 use kc_tally::Row;
 use kc_word::Batch;
-use std::alloc::{AllocError, Global};
+use std::alloc::Global;
 use std::process::Abort;
 use std::sync::Arc;
 use std::test::Fail;
@@ -111,6 +111,27 @@ const STEPS: &[Step] = &[
     (0, Err(BookFault::Twice), BOTH),
 ];
 
+// ACGTA in batch 0 and ACG in batch 1: a table of two keys refuses the third.
+const FULL: &[Step] = &[
+    (0, Err(BookFault::Full), NOTHING),
+    (1, Ok(()), ONE_WORD),
+    (0, Err(BookFault::Full), ONE_WORD),
+];
+
+const NO_MEMORY: &[Step] = &[
+    (0, Err(BookFault::Memory), NOTHING),
+    (1, Ok(()), ONE_WORD),
+    (0, Err(BookFault::Memory), ONE_WORD),
+];
+
+// ACG alone, in batch 1.
+const ONE_WORD: Held<'static> = Held {
+    journal: &[1],
+    total: 1,
+    bins: [1, 0, 0],
+    counts: &[(6, 1)],
+};
+
 // The rows after these steps.
 const ROWS: &[Row] = &[Row { word: 0, count: 3 }];
 
@@ -133,57 +154,23 @@ pub(crate) fn cuts_and_stranger(alloc: Global) -> Result<Vec<Cut>, Fail> {
     Ok(cuts)
 }
 
-// The stripe takes the step.
-fn assert_step<C: Counts>(rt: &impl Abort, stripe: &mut Stripe<C>, cuts: &[Cut], step: &Step) {
-    let (number, answer, held) = step;
-    assert!(rt; *number < cuts.len());
-    assert_same(rt, "a booking", &stripe.book(&cuts[*number]), answer);
-    assert_held(rt, stripe, held);
-}
-
 // The stripe takes the steps one after another.
-fn assert_steps<C: Counts>(rt: &impl Abort, stripe: &mut Stripe<C>, cuts: &[Cut]) {
-    for step in STEPS {
-        assert_step(rt, stripe, cuts, step);
+fn assert_steps<C: Counts>(rt: &impl Abort, stripe: &mut Stripe<C>, cuts: &[Cut], steps: &[Step]) {
+    for (number, answer, held) in steps {
+        assert!(rt; *number < cuts.len());
+        assert_same(rt, "a booking", &stripe.book(&cuts[*number]), answer);
+        assert_held(rt, stripe, held);
     }
-}
-
-// What a stripe of one stripe's setup with k 3 does.
-fn is_booked_in_order<C: Counts>(
-    rt: &impl Abort,
-    alloc: Global,
-    stripe: &mut Stripe<C>,
-    cuts: &[Cut],
-) -> Result<(), Fail> {
-    assert_same(rt, "cuts", &cuts.len(), &3);
-    assert_held(rt, stripe, &NOTHING);
-    assert_steps(rt, stripe, cuts);
-    Ok(assert_rows(rt, alloc, stripe)?)
-}
-
-// The stripe has the rows after these steps.
-fn assert_rows<C: Counts>(
-    rt: &impl Abort,
-    alloc: Global,
-    stripe: &Stripe<C>,
-) -> Result<(), AllocError> {
-    let rows = stripe.rows(alloc)?;
-    assert_items(rt, "rows", rows.as_slice(), ROWS);
-    Ok(())
 }
 
 // An empty stripe over a quotient table with a slot for each key: all words of three bases in one stripe.
 pub(crate) fn quotient_stripe(alloc: Global) -> Result<Box<Stripe<QuotientTable>>, Fail> {
     let setup = made_setup(3, 1)?;
-    quotient_stripe_by(alloc, &setup)
-}
-
-fn quotient_stripe_by(alloc: Global, setup: &Setup) -> Result<Box<Stripe<QuotientTable>>, Fail> {
     if setup.key_bits() != 6 || setup.stripes() != 1 {
         return Err(Fail::from("another setup"));
     }
     let table = QuotientTable::new(alloc, 6, 6, 6)?;
-    Ok(Box::new(alloc, Stripe::new(alloc, setup, 0, table)?)?)
+    Ok(Box::new(alloc, Stripe::new(alloc, &setup, 0, table)?)?)
 }
 
 // An empty stripe of words of three bases over a `BTreeMap`.
@@ -192,211 +179,37 @@ pub(crate) fn map_stripe(alloc: Global) -> Result<Box<Stripe<PlainCounts>>, Fail
     plain_stripe(alloc, &setup, 0)
 }
 
-#[test]
-fn batches_are_booked_in_order(rt: HostRuntime) -> Result<(), Fail> {
-    let alloc = rt.alloc();
-    let cuts = cuts_and_stranger(alloc)?;
-    is_booked_in_order(&rt, alloc, &mut *map_stripe(alloc)?, &cuts)?;
-    is_booked_in_order(&rt, alloc, &mut *quotient_stripe(alloc)?, &cuts)
-}
-
-// ACG alone, in batch 1.
-const ONE_WORD: Held<'static> = Held {
-    journal: &[1],
-    total: 1,
-    bins: [1, 0, 0],
-    counts: &[(6, 1)],
-};
-
-// Three words, and one word.
-const THREE_AND_ONE: &[&[u8]] = &[b"ACGTA", b"ACG"];
-
-// A stripe over a table that takes so many keys, and refuses a further one with this fault.
-fn stripe_of_keys(
+// A stripe over a table that takes two keys, and refuses a third like this.
+pub(crate) fn limited_stripe(
     alloc: Global,
-    keys: u64,
     refusal: TableFault,
 ) -> Result<Box<Stripe<LimitedCounts>>, Fail> {
     let setup = made_setup(3, 1)?;
     if setup.stripes() != 1 {
         return Err(Fail::from("another setup"));
     }
-    let table = LimitedCounts::new(alloc, setup.key_bits(), keys, refusal);
+    let table = LimitedCounts::new(alloc, setup.key_bits(), 2, refusal);
     Ok(Box::new(alloc, Stripe::new(alloc, &setup, 0, table)?)?)
 }
 
-// A stripe over a table that takes two keys, and refuses a third like this.
-pub(crate) fn limited_stripe(
-    alloc: Global,
-    refusal: TableFault,
-) -> Result<Box<Stripe<LimitedCounts>>, Fail> {
-    stripe_of_keys(alloc, 2, refusal)
-}
-
-// The stripe refuses a cut of three words with this fault, and then takes one of one word.
-fn refuses_three(
-    rt: &impl Abort,
-    alloc: Global,
-    cuts: &[Cut],
-    refusal: TableFault,
-    fault: BookFault,
-) -> Result<(), Fail> {
-    refuses_first(
-        rt,
-        alloc,
-        &mut *limited_stripe(alloc, refusal)?,
-        cuts,
-        fault,
-    )
-}
-
-// The stripe refuses the first of two cuts with this fault, and then takes the second.
-fn refuses_first(
-    rt: &impl Abort,
-    alloc: Global,
-    stripe: &mut Stripe<LimitedCounts>,
-    cuts: &[Cut],
-    fault: BookFault,
-) -> Result<(), Fail> {
-    assert!(rt; cuts.len() == 2);
-    assert_refused(rt, alloc, stripe, &cuts[0], fault)?;
-    book_at(stripe, cuts, 1)?;
-    assert_held(rt, stripe, &ONE_WORD);
-    Ok(())
-}
-
-// The empty stripe refuses a cut with this fault, and is still empty.
-fn assert_refused(
-    rt: &impl Abort,
-    alloc: Global,
-    stripe: &mut Stripe<LimitedCounts>,
-    cut: &Cut,
-    fault: BookFault,
-) -> Result<(), AllocError> {
-    assert_same(rt, "a booking", &stripe.book(cut), &Err(fault));
-    assert_held(rt, stripe, &NOTHING);
+#[test]
+fn batches_are_booked_in_order(rt: HostRuntime) -> Result<(), Fail> {
+    let alloc = rt.alloc();
+    let cuts = cuts_and_stranger(alloc)?;
+    let mut stripe = map_stripe(alloc)?;
+    assert_steps(&rt, &mut *stripe, &cuts, STEPS);
     let rows = stripe.rows(alloc)?;
-    assert_same(rt, "rows", &rows.len(), &0);
+    assert_items(&rt, "rows", rows.as_slice(), ROWS);
     Ok(())
 }
 
 #[test]
 fn a_full_table_refuses(rt: HostRuntime) -> Result<(), Fail> {
     let alloc = rt.alloc();
-    let cuts = cuts_of_three(alloc, 1, THREE_AND_ONE, 3)?;
-    refuses_three(&rt, alloc, &cuts, TableFault::Full, BookFault::Full)?;
-    refuses_three(&rt, alloc, &cuts, TableFault::Memory, BookFault::Memory)
-}
-
-// AAC twice, ACA, CAA, AAA and ACG in batch 0, and AAA twice in batch 1.
-const NEW_AND_OLD: &[&[u8]] = &[b"AACAAACG", b"AAAA"];
-
-const OLD: Held<'static> = Held {
-    journal: &[1],
-    total: 2,
-    bins: [0, 1, 0],
-    counts: &[(0, 2)],
-};
-
-const NEW: Held<'static> = Held {
-    journal: &[1, 0],
-    total: 8,
-    bins: [3, 1, 1],
-    counts: &[(0, 3), (1, 2), (4, 1), (6, 1), (16, 1)],
-};
-
-// The stripe takes batch 1, and refuses batch 0 twice.
-fn refuses_new(
-    rt: &impl Abort,
-    stripe: &mut Stripe<LimitedCounts>,
-    cuts: &[Cut],
-    fault: BookFault,
-) -> Result<(), Fail> {
-    assert!(rt; cuts.len() == 2);
-    book_at(stripe, cuts, 1)?;
-    for _ in 0..2 {
-        assert_same(rt, "a booking", &stripe.book(&cuts[0]), &Err(fault));
-        assert_held(rt, stripe, &OLD);
-    }
+    let cuts = cuts_of_three(alloc, 1, &[b"ACGTA", b"ACG"], 3)?;
+    let mut stripe = limited_stripe(alloc, TableFault::Full)?;
+    assert_steps(&rt, &mut *stripe, &cuts, FULL);
+    let mut stripe = limited_stripe(alloc, TableFault::Memory)?;
+    assert_steps(&rt, &mut *stripe, &cuts, NO_MEMORY);
     Ok(())
-}
-
-// The stripe takes batch 1, and then batch 0.
-fn takes_new(
-    rt: &impl Abort,
-    stripe: &mut Stripe<LimitedCounts>,
-    cuts: &[Cut],
-) -> Result<(), Fail> {
-    book_at(stripe, cuts, 1)?;
-    book_at(stripe, cuts, 0)?;
-    assert_held(rt, stripe, &NEW);
-    Ok(())
-}
-
-#[test]
-fn a_refusal_at_any_key_leaves_all_as_it_was(rt: HostRuntime) -> Result<(), Fail> {
-    let alloc = rt.alloc();
-    let cuts = cuts_of_three(alloc, 1, NEW_AND_OLD, 6)?;
-    for keys in 1..5 {
-        let mut stripe = stripe_of_keys(alloc, keys, TableFault::Full)?;
-        refuses_new(&rt, &mut *stripe, &cuts, BookFault::Full)?;
-        let mut stripe = stripe_of_keys(alloc, keys, TableFault::Memory)?;
-        refuses_new(&rt, &mut *stripe, &cuts, BookFault::Memory)?;
-    }
-    takes_new(
-        &rt,
-        &mut *stripe_of_keys(alloc, 5, TableFault::Full)?,
-        &cuts,
-    )
-}
-
-// The same word 5,000 times, again 5,000 times, and 3 times.
-fn same_word(alloc: Global) -> Result<Vec<u8>, AllocError> {
-    let mut bases = Vec::new(alloc);
-    for _ in 0..10_005 {
-        bases.push(b'A')?;
-    }
-    Ok(bases)
-}
-
-// The cuts of these words.
-fn long_cuts(alloc: Global) -> Result<Vec<Cut>, Fail> {
-    let bases = same_word(alloc)?;
-    cuts_of_three(alloc, 1, &[&bases], 5_000)
-}
-
-// The bins 5,000, 10,000 and 10,001 after each of them.
-const LAST_BINS: &[[u64; 3]] = &[[1, 0, 0], [0, 1, 0], [0, 0, 1]];
-
-// The stripe's bins after each of the cuts.
-fn assert_last_bins<C: Counts>(
-    rt: &impl Abort,
-    stripe: &mut Stripe<C>,
-    cuts: &[Cut],
-) -> Result<(), Fail> {
-    for index in 0..LAST_BINS.len() {
-        book_at(stripe, cuts, index)?;
-        let now = [stripe.bin(5_000), stripe.bin(10_000), stripe.bin(10_001)];
-        assert_same(rt, "the bins", &now, &LAST_BINS[index]);
-    }
-    Ok(())
-}
-
-fn comes_to_the_last_bin<C: Counts>(
-    rt: &impl Abort,
-    stripe: &mut Stripe<C>,
-    cuts: &[Cut],
-) -> Result<(), Fail> {
-    assert_same(rt, "cuts", &cuts.len(), &3);
-    assert_last_bins(rt, stripe, cuts)?;
-    assert_same(rt, "the total", &stripe.total(), &10_003);
-    Ok(())
-}
-
-#[test]
-fn the_last_bin(rt: HostRuntime) -> Result<(), Fail> {
-    let alloc = rt.alloc();
-    let cuts = long_cuts(alloc)?;
-    comes_to_the_last_bin(&rt, &mut *map_stripe(alloc)?, &cuts)?;
-    comes_to_the_last_bin(&rt, &mut *quotient_stripe(alloc)?, &cuts)
 }

@@ -7,15 +7,9 @@ mod bookings;
 #[cfg(test)]
 mod cut_rows;
 #[cfg(test)]
-mod foreign_stripes;
-#[cfg(test)]
-mod gathered_tallies;
-#[cfg(test)]
 mod gatherings;
 #[cfg(test)]
 mod listed_counts;
-#[cfg(test)]
-mod many_threads;
 #[cfg(test)]
 mod meetings;
 #[cfg(test)]

@@ -4,10 +4,10 @@ ghost use Rattle.std.specs.FinMap.{empty};
 ghost use Rattle.kc_booking.specs.Setup.{stripe_count, key_bits};
 
 use crate::open_terms::Open;
-use crate::rounds::made_round;
-use crate::sample_batches::{batches_in, cuts_in, made_setup};
+use crate::rounds::round_in;
+use crate::sample_batches::{cuts_in, made_setup};
 use kc_share::{Books, Share, Sheet};
-use kc_stripe::{BookFault, Cut, Cuts, Ordered, Round, Setup, Stripes};
+use kc_stripe::{BookFault, Cut, Cuts, Ordered, Setup, Stripes};
 use kc_table::{Counts, PlainCounts, TableFault};
 use std::alloc::{AllocError, Global};
 use std::marker::Brand;
@@ -103,37 +103,41 @@ impl Counts for MeetingCounts<'_> {
     }
 }
 
-// Books a cut with a share that is given up then.
-fn book_once<C: Counts, N: Books, R: Wait>(
-    rt: &R,
-    stripes: &Stripes<C, Open<N>>,
-    mut share: Share<Open<N>>,
-    cut: &Cut,
-) -> Result<(), BookFault> {
-    if cut.stripe() >= stripes.setup().stripes() {
-        return Err(BookFault::Stranger);
-    }
-    match stripes.book(rt, &mut share, cut) {
-        Ok(()) => Ok(()),
-        Err(fault) => Err(fault),
-    }
+// What is booked in one stripe: the words of one batch, or those of a round.
+#[derive(Clone, Copy)]
+enum Booking<'a> {
+    Batch(&'a Cut),
+    Round(&'a Cuts<'a>),
 }
 
-// Books the words of a round in one stripe with a share that is given up then.
-fn book_round_once<C: Counts, N: Books, R: Wait>(
+// Books it with a share that is given up then.
+fn book_once<C: Counts, N: Books, R: Wait>(
     rt: &R,
     alloc: Global,
     stripes: &Stripes<C, Open<N>>,
     mut share: Share<Open<N>>,
-    cuts: &Cuts,
+    booking: Booking<'_>,
 ) -> Result<(), BookFault> {
-    if cuts.stripe() >= stripes.setup().stripes() {
-        return Err(BookFault::Stranger);
-    }
-    let mut ordered = Ordered::new(alloc)?;
-    match stripes.book_all(rt, &mut share, cuts, &mut ordered) {
-        Ok(_) => Ok(()),
-        Err(fault) => Err(fault),
+    match booking {
+        Booking::Batch(cut) => {
+            if cut.stripe() >= stripes.setup().stripes() {
+                return Err(BookFault::Stranger);
+            }
+            match stripes.book(rt, &mut share, cut) {
+                Ok(()) => Ok(()),
+                Err(fault) => Err(fault),
+            }
+        }
+        Booking::Round(cuts) => {
+            if cuts.stripe() >= stripes.setup().stripes() {
+                return Err(BookFault::Stranger);
+            }
+            let mut ordered = Ordered::new(alloc)?;
+            match stripes.book_all(rt, &mut share, cuts, &mut ordered) {
+                Ok(_) => Ok(()),
+                Err(fault) => Err(fault),
+            }
+        }
     }
 }
 
@@ -163,13 +167,13 @@ fn meeting_tables<'a>(
     Ok(tables)
 }
 
-// Two cuts are booked over two tables that look for one another, each cut by a thread of its own.
+// Two bookings over two tables that look for one another, each by a thread of its own.
 fn book_at_once<N: Books + Send + Sync, R: Threads + Wait + Sync>(
     rt: &R,
     alloc: Global,
     setup: &Setup,
     sheet: Sheet,
-    cuts: (&Cut, &Cut),
+    bookings: (Booking<'_>, Booking<'_>),
     flags: &Flags,
 ) -> Result<[Result<(), BookFault>; 2], AllocError>
     requires name { sheet.table ≡ N.table }
@@ -177,34 +181,27 @@ fn book_at_once<N: Books + Send + Sync, R: Threads + Wait + Sync>(
 {
     let tables = meeting_tables(alloc, setup, flags)?;
     let (stripes, one) = Stripes::<MeetingCounts<'_>, Open<N>>::new(alloc, setup, tables, sheet)?;
-    Ok(book_by_two(rt, &stripes, one, cuts))
+    Ok(book_by_two(rt, alloc, &stripes, one, bookings))
 }
 
-// Splits the share in two, and books each cut with one of them, by a thread of its own.
+// Splits the share in two, and books with each of them, by a thread of its own.
 fn book_by_two<N: Books + Send + Sync, R: Threads + Wait + Sync>(
     rt: &R,
+    alloc: Global,
     stripes: &Stripes<MeetingCounts<'_>, Open<N>>,
     mut one: Share<Open<N>>,
-    cuts: (&Cut, &Cut),
+    bookings: (Booking<'_>, Booking<'_>),
 ) -> [Result<(), BookFault>; 2]
     requires { one.parts ≡ 2 }
 {
     let other = stripes.split(&mut one);
-    let (first, second) = cuts;
+    let (first, second) = bookings;
     let (one, other) = join(
         rt,
-        move || book_once(rt, stripes, one, first),
-        move || book_once(rt, stripes, other, second),
+        move || book_once(rt, alloc, stripes, one, first),
+        move || book_once(rt, alloc, stripes, other, second),
     );
     [one, other]
-}
-
-#[test]
-fn two_stripes_are_booked_at_once(rt: HostRuntime) -> Result<(), Fail> {
-    let alloc = rt.alloc();
-    let setup = made_setup(3, 2)?;
-    let cuts = cuts_in(alloc, &setup, b"AAAC")?;
-    meet(&rt, alloc, &setup, &cuts)
 }
 
 impl Flags {
@@ -223,86 +220,41 @@ fn assert_met(rt: &impl Abort, booked: &[Result<(), BookFault>; 2], flags: &Flag
     assert!(rt; flags.met.1.load(Ordering::SeqCst));
 }
 
-// The cuts of two stripes are booked at once: each booking met the other one.
+// Two stripes are booked at once: each booking met the other one.
 fn meet<R: Threads + Wait + Abort + Sync>(
     rt: &R,
     alloc: Global,
     setup: &Setup,
-    cuts: &[Cut],
+    bookings: (Booking<'_>, Booking<'_>),
 ) -> Result<(), Fail> {
-    let [first, second] = cuts else {
-        return Err(Fail::from("other cuts"));
-    };
     if setup.stripes() != 2 {
         return Err(Fail::from("another setup"));
     }
     let flags = Flags::all_lowered();
     let sheet = Sheet::new(alloc, 2, 2)?;
-    let booked = book_at_once::<Brand, _>(rt, alloc, setup, sheet, (first, second), &flags)?;
+    let booked = book_at_once::<Brand, _>(rt, alloc, setup, sheet, bookings, &flags)?;
     assert_met(rt, &booked, &flags);
     Ok(())
 }
 
-// The words of a round in two stripes are booked over two tables that look for one another, by a thread for each
-// stripe.
-fn book_round_at_once<N: Books + Send + Sync, R: Threads + Wait + Sync>(
-    rt: &R,
-    alloc: Global,
-    round: &Round,
-    sheet: Sheet,
-    flags: &Flags,
-) -> Result<[Result<(), BookFault>; 2], AllocError>
-    requires name { sheet.table ≡ N.table }
-    requires plan { (sheet.plan.stripes ≡ 2) × (sheet.plan.parts ≡ 2) × (stripe_count round.now.setup ≡ 2) }
-{
-    let setup = round.setup();
-    let tables = meeting_tables(alloc, setup, flags)?;
-    let (stripes, one) = Stripes::<MeetingCounts<'_>, Open<N>>::new(alloc, setup, tables, sheet)?;
-    Ok(book_round_by_two(rt, alloc, &stripes, one, round))
-}
-
-// Splits the share in two, and books the words of each stripe with one of them, by a thread of its own.
-fn book_round_by_two<N: Books + Send + Sync, R: Threads + Wait + Sync>(
-    rt: &R,
-    alloc: Global,
-    stripes: &Stripes<MeetingCounts<'_>, Open<N>>,
-    mut one: Share<Open<N>>,
-    round: &Round,
-) -> [Result<(), BookFault>; 2]
-    requires parts { one.parts ≡ 2 }
-    requires two { stripe_count round.now.setup ≡ 2 }
-{
-    let other = stripes.split(&mut one);
-    let (first, second) = (round.cuts(0), round.cuts(1));
-    let (one, other) = join(
-        rt,
-        move || book_round_once(rt, alloc, stripes, one, &first),
-        move || book_round_once(rt, alloc, stripes, other, &second),
-    );
-    [one, other]
+#[test]
+fn two_stripes_are_booked_at_once(rt: HostRuntime) -> Result<(), Fail> {
+    let setup = made_setup(3, 2)?;
+    let cuts = cuts_in(rt.alloc(), &setup, b"AAAC")?;
+    let [first, second] = cuts.as_slice() else {
+        return Err(Fail::from("other cuts"));
+    };
+    let bookings = (Booking::Batch(first), Booking::Batch(second));
+    meet(&rt, rt.alloc(), &setup, bookings)
 }
 
 #[test]
 fn a_round_is_booked_into_two_stripes_at_once(rt: HostRuntime) -> Result<(), Fail> {
-    let alloc = rt.alloc();
-    let setup = made_setup(3, 2)?;
-    let batches = batches_in(alloc, &setup, &[b"AAAC"], 8)?;
-    let round = made_round(alloc, &setup, &batches)?;
-    meet_in_round(&rt, alloc, &round)
-}
-
-// The words of the round in two stripes are booked at once: each booking met the other one.
-fn meet_in_round<R: Threads + Wait + Abort + Sync>(
-    rt: &R,
-    alloc: Global,
-    round: &Round,
-) -> Result<(), Fail> {
+    let round = round_in(rt.alloc(), 2, &[b"AAAC"], 8, &[0])?;
     if round.setup().stripes() != 2 {
         return Err(Fail::from("another setup"));
     }
-    let flags = Flags::all_lowered();
-    let sheet = Sheet::new(alloc, 2, 2)?;
-    let booked = book_round_at_once::<Brand, _>(rt, alloc, round, sheet, &flags)?;
-    assert_met(rt, &booked, &flags);
-    Ok(())
+    let (first, second) = (round.cuts(0), round.cuts(1));
+    let bookings = (Booking::Round(&first), Booking::Round(&second));
+    meet(&rt, rt.alloc(), round.setup(), bookings)
 }

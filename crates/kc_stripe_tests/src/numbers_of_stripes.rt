@@ -6,31 +6,32 @@ ghost use Rattle.kc_booking.specs.Stripe.{position_sum};
 use crate::gatherings::{batches_of, stripes_of};
 use crate::sample_batches::made_setup;
 use crate::stripe_assertions::assert_same;
-use kc_gather::{GatherFault, Numbers, Summary};
+use kc_gather::{Numbers, Summary};
 use kc_stripe::Setup;
-use kc_tally::{Histogram, Statistics};
+use kc_tally::Statistics;
 use kc_word::Batch;
 use std::alloc::Global;
-use std::process::Abort;
 use std::sync::Arc;
 use std::test::Fail;
 use std::thread::Threads;
 
-// What gathering the numbers returns, if these batches are given and those were booked.
-fn gather_numbers<H: Threads + Sync>(
+// The numbers of these batches, which were booked.
+fn numbers_of<H: Threads + Sync>(
     rt: &H,
     alloc: Global,
     setup: &Setup,
     batches: &[Arc<Batch>],
-    booked: &[Arc<Batch>],
-) -> Result<Result<Numbers, GatherFault>, Fail>
+) -> Result<Numbers, Fail>
     requires { position_sum setup.now.rule.k (values batches.now) ≤ 2 ^ 62 }
 {
-    let stripes = stripes_of(alloc, setup, booked)?;
+    let stripes = stripes_of(alloc, setup, batches)?;
     if stripes.len() != setup.stripes() as usize {
         return Err(Fail::from("not a stripe for each number"));
     }
-    Ok(Numbers::gather(rt, alloc, 1, stripes, batches, setup))
+    match Numbers::gather(rt, alloc, 2, stripes, batches, setup) {
+        Ok(numbers) => Ok(numbers),
+        Err(_) => Err(Fail::from("no numbers")),
+    }
 }
 
 // Numbers of stripes, and positions of a batch.
@@ -44,46 +45,16 @@ const WANT: Statistics = Statistics {
     greatest: 2,
 };
 
-fn assert_bins(rt: &impl Abort, histogram: &Histogram) {
-    assert_same(rt, "words once", &histogram.bin(1), &2);
-    assert_same(rt, "words twice", &histogram.bin(2), &1);
-    for bin in 3..=10_001 {
-        assert_same(rt, "no word", &histogram.bin(bin), &0);
-    }
-}
-
 #[test]
 fn the_numbers_of_all_stripes(rt: HostRuntime) -> Result<(), Fail> {
     for (stripes, size) in COUNTS {
         let setup = made_setup(3, *stripes)?;
         let batches = batches_of(rt.alloc(), &setup, b"ACGTANACG", *size)?;
-        match gather_numbers(&rt, rt.alloc(), &setup, &batches, &batches)? {
-            Ok(numbers) => {
-                assert_bins(&rt, &numbers.histogram);
-                assert_same(&rt, "statistics", &numbers.statistics, &WANT);
-            }
-            Err(_) => return Err(Fail::from("no numbers")),
-        }
-    }
-    Ok(())
-}
-
-// Bases whose batches are given if those of AAAA were booked, and the fault.
-const REFUSALS: &[(&[u8], GatherFault)] = &[
-    (b"AAAAC", GatherFault::Missing(0, 1)),
-    (b"CCCCC", GatherFault::Foreign(0)),
-];
-
-#[test]
-fn a_stripe_that_lacks_a_batch_or_has_another_has_no_numbers(rt: HostRuntime) -> Result<(), Fail> {
-    let setup = made_setup(3, 1)?;
-    let booked = batches_of(rt.alloc(), &setup, b"AAAA", 2)?;
-    for (bases, want) in REFUSALS {
-        let batches = batches_of(rt.alloc(), &setup, *bases, 2)?;
-        match gather_numbers(&rt, rt.alloc(), &setup, &batches, &booked)? {
-            Ok(_) => return Err(Fail::from("numbers")),
-            Err(fault) => assert_same(&rt, "a fault", &fault, want),
-        }
+        let numbers = numbers_of(&rt, rt.alloc(), &setup, &batches)?;
+        assert_same(&rt, "words once", &numbers.histogram.bin(1), &2);
+        assert_same(&rt, "words twice", &numbers.histogram.bin(2), &1);
+        assert_same(&rt, "no word", &numbers.histogram.bin(3), &0);
+        assert_same(&rt, "statistics", &numbers.statistics, &WANT);
     }
     Ok(())
 }

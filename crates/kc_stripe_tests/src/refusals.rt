@@ -5,12 +5,12 @@ ghost use Rattle.kc_booking.specs.Setup.{stripe_count, word_count};
 
 use crate::bookings::{Held, NOTHING, assert_held, map_stripe, quotient_stripe};
 use crate::open_terms::Open;
-use crate::rounds::{batches_at, first_cuts, made_round};
-use crate::sample_batches::{batches_in, cuts_of, cuts_of_three, made_setup};
+use crate::rounds::{first_cuts, round_in};
+use crate::sample_batches::{cuts_of, cuts_of_three, made_setup};
 use crate::sharings::stripes_of;
 use crate::stripe_assertions::assert_same;
 use kc_share::{Books, Share, Sheet};
-use kc_stripe::{BookFault, Cut, Cuts, Ordered, Round, Setup, Stripe, Stripes};
+use kc_stripe::{BookFault, Cut, Cuts, Ordered, Setup, Stripe, Stripes};
 use kc_table::{Counts, PlainCounts};
 use kc_word::Word;
 use std::alloc::Global;
@@ -34,11 +34,55 @@ fn is_booked_again<C: Counts>(
     Ok(())
 }
 
-// AAA, and the words of the text of 40 words.
-const ONCE: &[u64] = &[
-    0, 1, 2, 3, 4, 5, 6, 7, 8, 9, 10, 11, 12, 13, 14, 15, 16, 17, 18, 19, 20, 21, 22, 24, 25, 28,
-    32, 33, 34, 35, 36, 37, 40, 44, 49, 50, 51, 52, 53, 56, 61,
-];
+// AAA and the words of the text of 40 words, each once.
+const ONCE: Held<'static> = Held {
+    journal: &[1, 0],
+    total: 41,
+    bins: [41, 0, 0],
+    counts: &[
+        (0, 1),
+        (1, 1),
+        (2, 1),
+        (3, 1),
+        (4, 1),
+        (5, 1),
+        (6, 1),
+        (7, 1),
+        (8, 1),
+        (9, 1),
+        (10, 1),
+        (11, 1),
+        (12, 1),
+        (13, 1),
+        (14, 1),
+        (15, 1),
+        (16, 1),
+        (17, 1),
+        (18, 1),
+        (19, 1),
+        (20, 1),
+        (21, 1),
+        (22, 1),
+        (24, 1),
+        (25, 1),
+        (28, 1),
+        (32, 1),
+        (33, 1),
+        (34, 1),
+        (35, 1),
+        (36, 1),
+        (37, 1),
+        (40, 1),
+        (44, 1),
+        (49, 1),
+        (50, 1),
+        (51, 1),
+        (52, 1),
+        (53, 1),
+        (56, 1),
+        (61, 1),
+    ],
+};
 
 // 40 words, each once, and AAA.
 const TEXTS: &[&[u8]] = &[b"AACAAGAATACCACGACTAGCAGGAGTATCATGATTCCCGCC", b"AAA"];
@@ -51,52 +95,25 @@ const AAA: Held<'static> = Held {
     counts: &[(0, 1)],
 };
 
-// All 41 words were counted once.
-fn assert_once_each<C: Counts>(
-    rt: &impl Abort,
-    alloc: Global,
-    stripe: &Stripe<C>,
-) -> Result<(), Fail> {
-    let mut counts = Vec::new(alloc);
-    for word in ONCE {
-        counts.push((*word, 1))?;
-    }
-    let held = Held {
-        journal: &[1, 0],
-        total: 41,
-        bins: [41, 0, 0],
-        counts: &counts,
-    };
-    assert_held(rt, stripe, &held);
-    Ok(())
-}
-
 // Books AAA, and then a batch of 40 other words, again if memory is refused.
 fn is_booked_at_last<C: Counts>(
     rt: &impl Abort,
-    alloc: Global,
     stripe: &mut Stripe<C>,
     cuts: &[Cut],
 ) -> Result<(), Fail> {
     assert!(rt; cuts.len() == 2);
     is_booked_again(rt, stripe, &cuts[1], &NOTHING)?;
     is_booked_again(rt, stripe, &cuts[0], &AAA)?;
-    assert_once_each(rt, alloc, stripe)
+    assert_held(rt, stripe, &ONCE);
+    Ok(())
 }
 
 #[test]
 fn a_refused_growth_leaves_the_stripe(rt: HostRuntime) -> Result<(), Fail> {
     let alloc = rt.alloc();
     let cuts = cuts_of_three(alloc, 1, TEXTS, 40)?;
-    is_booked_at_last(&rt, alloc, &mut *map_stripe(alloc)?, &cuts)?;
-    is_booked_at_last(&rt, alloc, &mut *quotient_stripe(alloc)?, &cuts)
-}
-
-// Both batches as one round.
-fn round_of_both(alloc: Global) -> Result<Round, Fail> {
-    let setup = made_setup(3, 1)?;
-    let batches = batches_in(alloc, &setup, TEXTS, 40)?;
-    made_round(alloc, &setup, &batches_at(alloc, &batches, &[1, 0])?)
+    is_booked_at_last(&rt, &mut *map_stripe(alloc)?, &cuts)?;
+    is_booked_at_last(&rt, &mut *quotient_stripe(alloc)?, &cuts)
 }
 
 // Books both batches at once, again if memory is refused: the stripe is unchanged then.
@@ -105,9 +122,11 @@ fn is_round_booked_at_last<C: Counts>(
     alloc: Global,
     stripe: &mut Stripe<C>,
 ) -> Result<(), Fail> {
-    let round = round_of_both(alloc)?;
-    is_round_booked_again(rt, stripe, &first_cuts(&round), &mut Ordered::new(alloc)?)?;
-    assert_once_each(rt, alloc, stripe)
+    let round = round_in(alloc, 1, TEXTS, 40, &[1, 0])?;
+    let mut ordered = Ordered::new(alloc)?;
+    is_round_booked_again(rt, stripe, &first_cuts(&round), &mut ordered)?;
+    assert_held(rt, stripe, &ONCE);
+    Ok(())
 }
 
 // Books the round, again if memory is refused: the stripe is then empty.

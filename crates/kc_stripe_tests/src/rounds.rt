@@ -2,7 +2,7 @@
 ghost use Rattle.std.specs.Prelude.{◌≡◌, ◌<◌};
 ghost use Rattle.kc_booking.specs.Setup.{stripe_count};
 
-use crate::bookings::{Held, NOTHING, assert_held, limited_stripe, map_stripe, quotient_stripe};
+use crate::bookings::{Held, NOTHING, assert_held, limited_stripe, map_stripe};
 use crate::open_terms::Open;
 use crate::sample_batches::{batches_in, made_setup};
 use crate::sharings::stripes_of;
@@ -18,7 +18,7 @@ use std::sync::{Arc, Wait};
 use std::test::Fail;
 
 // The batches of these places, in their order, as one list.
-pub(crate) fn batches_at(
+fn batches_at(
     alloc: Global,
     batches: &[Arc<Batch>],
     places: &[usize],
@@ -31,58 +31,33 @@ pub(crate) fn batches_at(
     Ok(round)
 }
 
-// The keys of ACGT and of ACG in each of four stripes, and how many each has.
-const ROUND: &[(&[u64], &[usize])] = &[
-    (&[], &[0, 0]),
-    (&[], &[0, 0]),
-    (&[1, 1], &[1, 1]),
-    (&[6], &[1, 0]),
-];
+// AAA twice in batch 0, and once in batch 1.
+const TWO_BATCHES: &[&[u8]] = &[b"AAAA", b"AAA"];
 
-fn assert_cuts(
-    rt: &impl Abort,
-    setup: &Setup,
-    cuts: &Cuts,
-    stripe: usize,
-    keys: &[u64],
-    sizes: &[usize],
-) {
+// Asserts the keys of the words of two batches in stripe 0, and how many each batch has.
+fn assert_first(rt: &impl Abort, round: &Round, keys: &[u64], sizes: &[usize]) {
+    let cuts = first_cuts(round);
     assert_items(rt, "keys", cuts.keys(), keys);
     assert_items(rt, "sizes", cuts.sizes(), sizes);
-    assert_same(rt, "a stripe", &(cuts.stripe() as usize), &stripe);
-    assert_same(rt, "batches", &cuts.batches().len(), &2);
-    assert!(rt; *cuts.setup() == *setup);
+    assert_same(rt, "batches", &cuts.batches().len(), &sizes.len());
+    assert_same(rt, "a stripe", &cuts.stripe(), &0);
+    assert!(rt; *cuts.setup() == *round.setup());
     assert!(rt; cuts.numbers_differ());
 }
 
-// There are as many stripes as rows, and each has the cuts of its row.
-fn assert_round(rt: &impl Abort, round: &Round) {
-    let setup = round.setup();
-    assert!(rt; setup.stripes() as usize == ROUND.len());
-    for stripe in 0..ROUND.len() {
-        let (keys, sizes) = ROUND[stripe];
-        assert_cuts(rt, setup, &round.cuts(stripe as u32), stripe, keys, sizes);
-    }
-}
-
 #[test]
-fn cuts_of_two_batches(rt: HostRuntime) -> Result<(), Fail> {
+fn cuts_of_two_batches_and_of_the_next_one(rt: HostRuntime) -> Result<(), Fail> {
     let alloc = rt.alloc();
-    let setup = made_setup(3, 4)?;
-    let batches = batches_in(alloc, &setup, &[b"ACGT", b"ACG"], 2)?;
-    assert_round(&rt, &made_round(alloc, &setup, &batches)?);
+    let setup = made_setup(3, 1)?;
+    let batches = batches_in(alloc, &setup, TWO_BATCHES, 2)?;
+    let mut round = made_round(alloc, &setup, &batches)?;
+    assert_first(&rt, &round, &[0, 0, 0], &[2, 1]);
+    round.clear();
+    assert!(rt; batches.len() == 2);
+    round.cut_up(&batches[1])?;
+    assert_first(&rt, &round, &[0], &[1]);
     Ok(())
 }
-
-#[test]
-fn a_number_that_stands_twice(rt: HostRuntime) -> Result<(), Fail> {
-    let round = round_in(rt.alloc(), 1, TWO_BATCHES, &[1, 0, 1])?;
-    assert!(rt; !first_cuts(&round).numbers_differ());
-    Ok(())
-}
-
-// AAA twice in batch 0, and once in batch 1.
-const TWO_BATCHES: &[&[u8]] = &[b"AAAA", b"AAA"];
 
 // AAA three times, the batches booked in this order.
 const TURNED: Held<'static> = Held {
@@ -106,19 +81,21 @@ const STEPS: &[Step] = &[
     (1, &[0], Err(BookFault::Twice), TURNED),
 ];
 
-// The words of these places' batches of the texts in so many stripes.
-fn round_in(alloc: Global, stripes: u32, texts: &[&[u8]], places: &[usize]) -> Result<Round, Fail> {
+// The words of these places' batches of the texts, of so many positions, in so many stripes.
+pub(crate) fn round_in(
+    alloc: Global,
+    stripes: u32,
+    texts: &[&[u8]],
+    size: u64,
+    places: &[usize],
+) -> Result<Round, Fail> {
     let setup = made_setup(3, stripes)?;
-    let batches = batches_in(alloc, &setup, texts, 2)?;
+    let batches = batches_in(alloc, &setup, texts, size)?;
     made_round(alloc, &setup, &batches_at(alloc, &batches, places)?)
 }
 
 // The batches cut up, one after another.
-pub(crate) fn made_round(
-    alloc: Global,
-    setup: &Setup,
-    batches: &[Arc<Batch>],
-) -> Result<Round, Fail> {
+fn made_round(alloc: Global, setup: &Setup, batches: &[Arc<Batch>]) -> Result<Round, Fail> {
     let mut round = Round::new(alloc, setup)?;
     for batch in batches {
         round.cut_up(batch)?;
@@ -145,36 +122,12 @@ fn takes_the_steps<C: Counts>(
 ) -> Result<(), Fail> {
     let mut ordered = Ordered::new(alloc)?;
     for (stripes, places, answer, held) in steps {
-        let round = round_in(alloc, *stripes, texts, *places)?;
-        assert_round_booked(rt, stripe, &first_cuts(&round), &mut ordered, answer, held);
+        let round = round_in(alloc, *stripes, texts, 2, *places)?;
+        let found = stripe.book_all(&first_cuts(&round), &mut ordered);
+        assert_same(rt, "a booking", &found, answer);
+        assert_held(rt, stripe, held);
     }
     Ok(())
-}
-
-// The stripe returns so to the round, and then holds this.
-fn assert_round_booked<C: Counts>(
-    rt: &impl Abort,
-    stripe: &mut Stripe<C>,
-    cuts: &Cuts,
-    ordered: &mut Ordered,
-    answer: &Result<(), BookFault>,
-    held: &Held<'_>,
-) {
-    assert_same(rt, "a booking", &stripe.book_all(cuts, ordered), answer);
-    assert_held(rt, stripe, held);
-}
-
-#[test]
-fn rounds_are_booked_or_refused(rt: HostRuntime) -> Result<(), Fail> {
-    let alloc = rt.alloc();
-    takes_the_steps(&rt, alloc, &mut *map_stripe(alloc)?, TWO_BATCHES, STEPS)?;
-    takes_the_steps(
-        &rt,
-        alloc,
-        &mut *quotient_stripe(alloc)?,
-        TWO_BATCHES,
-        STEPS,
-    )
 }
 
 // ACG and CGT in batch 0, TTT in batch 1.
@@ -200,25 +153,13 @@ const NO_MEMORY: &[Step] = &[
 ];
 
 #[test]
-fn a_round_that_is_full_in_its_second_batch(rt: HostRuntime) -> Result<(), Fail> {
-    refuses_the_second(&rt, rt.alloc(), TableFault::Full, FULL)?;
-    refuses_the_second(&rt, rt.alloc(), TableFault::Memory, NO_MEMORY)
-}
-
-// A stripe over a table that takes two keys, and refuses a third like this, takes the steps.
-fn refuses_the_second(
-    rt: &impl Abort,
-    alloc: Global,
-    refusal: TableFault,
-    steps: &[Step],
-) -> Result<(), Fail> {
-    takes_the_steps(
-        rt,
-        alloc,
-        &mut *limited_stripe(alloc, refusal)?,
-        THREE_WORDS,
-        steps,
-    )
+fn rounds_are_booked_or_refused(rt: HostRuntime) -> Result<(), Fail> {
+    let alloc = rt.alloc();
+    takes_the_steps(&rt, alloc, &mut *map_stripe(alloc)?, TWO_BATCHES, STEPS)?;
+    let mut full = limited_stripe(alloc, TableFault::Full)?;
+    takes_the_steps(&rt, alloc, &mut *full, THREE_WORDS, FULL)?;
+    let mut full = limited_stripe(alloc, TableFault::Memory)?;
+    takes_the_steps(&rt, alloc, &mut *full, THREE_WORDS, NO_MEMORY)
 }
 
 // Books the round twice with the share of everything: what is returned, and what the share then has of the stripe.
@@ -260,38 +201,10 @@ fn book_twice<N: Books, R: Wait>(
 }
 
 #[test]
-fn a_cleared_round_has_the_next_batches_alone(rt: HostRuntime) -> Result<(), Fail> {
-    let alloc = rt.alloc();
-    let setup = made_setup(3, 1)?;
-    let batches = batches_in(alloc, &setup, TWO_BATCHES, 2)?;
-    let mut round = made_round(alloc, &setup, &batches)?;
-    round.clear();
-    let next = batches_at(alloc, &batches, &[1])?;
-    for batch in &next {
-        round.cut_up(batch)?;
-    }
-    let alone = made_round(alloc, &setup, &next)?;
-    assert_items(
-        &rt,
-        "keys",
-        first_cuts(&round).keys(),
-        first_cuts(&alone).keys(),
-    );
-    assert_items(
-        &rt,
-        "sizes",
-        first_cuts(&round).sizes(),
-        first_cuts(&alone).sizes(),
-    );
-    assert!(rt; first_cuts(&round).numbers_differ());
-    Ok(())
-}
-
-#[test]
 fn a_share_has_the_batches_of_a_round_once(rt: HostRuntime) -> Result<(), Fail> {
     let alloc = rt.alloc();
     let setup = made_setup(3, 1)?;
-    let round = round_in(alloc, 1, TWO_BATCHES, &[0, 1])?;
+    let round = round_in(alloc, 1, TWO_BATCHES, 2, &[0, 1])?;
     if setup.stripes() != 1 {
         return Err(Fail::from("another setup"));
     }

@@ -2,7 +2,6 @@
 ghost use Rattle.std.specs.Prelude.{◌≡◌, ◌<◌, [], All, IfOk, vec_len};
 ghost use Rattle.std.specs.FinMap.{empty};
 ghost use Rattle.kc_booking.specs.Setup.{word_count, stripe_count, key_bits};
-ghost use Rattle.kc_stripe.specs.Locked.{IsAllOf};
 ghost use Rattle.kc_share.specs.Share.{share_of};
 
 use crate::bookings::cuts_and_stranger;
@@ -21,7 +20,7 @@ use std::test::Fail;
 use std::thread::{Threads, join};
 
 // An empty table for each stripe.
-pub(crate) fn tables_of(alloc: Global, setup: &Setup) -> Result<Vec<PlainCounts>, AllocError>
+fn tables_of(alloc: Global, setup: &Setup) -> Result<Vec<PlainCounts>, AllocError>
     ensures count { IfOk result (λ tables. vec_len tables ≡ stripe_count setup.now) }
     ensures tables { IfOk result (λ tables.
         All (λ table. (table.counts ≡ empty) × (table.bits ≡ key_bits setup.now)) tables.items) }
@@ -65,7 +64,7 @@ fn book_cut<N: Books, R: Wait>(
 }
 
 // Books a batch everywhere.
-pub(crate) fn book_batch<N: Books, R: Wait>(
+fn book_batch<N: Books, R: Wait>(
     rt: &R,
     alloc: Global,
     stripes: &Stripes<PlainCounts, Open<N>>,
@@ -83,7 +82,7 @@ pub(crate) fn book_batch<N: Books, R: Wait>(
 }
 
 // Books batches everywhere, and gives the share back.
-pub(crate) fn book_all<N: Books, R: Wait>(
+fn book_all<N: Books, R: Wait>(
     rt: &R,
     alloc: Global,
     stripes: &Stripes<PlainCounts, Open<N>>,
@@ -102,23 +101,21 @@ pub(crate) fn book_all<N: Books, R: Wait>(
 
 // Two threads, with a share each, book half of the batches each. Then the shares are joined, and the sharing ends: what
 // was booked with the whole share is all that the stripes have.
-fn count_by_two<N: Books + Send + Sync, R: Threads + Wait + Sync>(
+fn sums_by_two<N: Books + Send + Sync, R: Threads + Wait + Sync>(
     rt: &R,
     alloc: Global,
     setup: &Setup,
     sheet: Sheet,
     batches: &[Arc<Batch>],
-) -> Result<(Vec<Stripe<PlainCounts>>, Share<Open<N>>), BookFault>
+) -> Result<Vec<Sums>, BookFault>
     requires name { sheet.table ≡ N.table }
     requires stripes { sheet.plan.stripes ≡ stripe_count setup.now }
     requires parts { sheet.plan.parts ≡ 2 }
-    ensures plan { IfOk result (λ counted. counted.1.plan ≡ sheet.plan) }
-    ensures count { IfOk result (λ counted. vec_len counted.0 ≡ stripe_count setup.now) }
-    ensures whole { IfOk result (λ counted. All (λ stripe. IsAllOf counted.1.booked stripe) counted.0.items) }
 {
     let (stripes, one) = stripes_of::<N>(alloc, setup, sheet)?;
     let whole = book_by_two(rt, alloc, &stripes, one, batches)?;
-    Ok(stripes.into_stripes(alloc, whole)?)
+    let (stripes, whole) = stripes.into_stripes(alloc, whole)?;
+    Ok(sums_of(alloc, setup, &stripes, &whole)?)
 }
 
 // Splits the share in two, books half of the batches with each, and joins the shares.
@@ -167,9 +164,9 @@ fn book_halves<N: Books + Send + Sync, R: Threads + Wait + Sync>(
 }
 
 // What each stripe has, its total and the length of its journal, and what the share has of it.
-pub(crate) type Sums = ((u64, u64), (u64, u64));
+type Sums = ((u64, u64), (u64, u64));
 
-pub(crate) fn sums_of<N: Books>(
+fn sums_of<N: Books>(
     alloc: Global,
     setup: &Setup,
     stripes: &[Stripe<PlainCounts>],
@@ -186,21 +183,6 @@ pub(crate) fn sums_of<N: Books>(
         }
     }
     Ok(sums)
-}
-
-fn sums_by_two<N: Books + Send + Sync, R: Threads + Wait + Sync>(
-    rt: &R,
-    alloc: Global,
-    setup: &Setup,
-    sheet: Sheet,
-    batches: &[Arc<Batch>],
-) -> Result<Vec<Sums>, Fail>
-    requires name { sheet.table ≡ N.table }
-    requires stripes { sheet.plan.stripes ≡ stripe_count setup.now }
-    requires parts { sheet.plan.parts ≡ 2 }
-{
-    let (stripes, whole) = count_by_two::<N, R>(rt, alloc, setup, sheet, batches)?;
-    Ok(sums_of(alloc, setup, &stripes, &whole)?)
 }
 
 // What the one stripe has, and what the share has of it.
@@ -340,22 +322,6 @@ fn look_among_batches<R: Wait + Abort>(
     Ok(book_and_look::<Brand, _>(rt, alloc, setup, sheet, (cut, stranger))?)
 }
 
-// How often each of the words was counted.
-fn counts_of<N: Books, R: Wait>(
-    rt: &R,
-    alloc: Global,
-    stripes: &Stripes<PlainCounts, Open<N>>,
-    share: &mut Share<Open<N>>,
-    words: &[u64],
-) -> Result<Vec<u64>, Fail> {
-    let mut counts = Vec::new(alloc);
-    for word in words {
-        let (count, _) = look_up(rt, alloc, stripes, share, *word)?;
-        counts.push(count)?;
-    }
-    Ok(counts)
-}
-
 // The results of looks: how often each of the words was counted, and in how many batches, or why not.
 fn looks_of<N: Books, R: Wait>(
     rt: &R,
@@ -373,7 +339,8 @@ fn looks_of<N: Books, R: Wait>(
 
 type Look = Result<(u64, usize), BookFault>;
 
-// Books batches everywhere, and looks the words up before and after: among no batches, and among all of them.
+// Books batches everywhere, and looks the words up before and after: among no batches, and among all of them. Then the
+// sharing ends: the numbers and the totals of the stripes, as they come.
 fn look_book_and_look<N: Books, R: Wait>(
     rt: &R,
     alloc: Global,
@@ -381,12 +348,13 @@ fn look_book_and_look<N: Books, R: Wait>(
     sheet: Sheet,
     batches: &[Arc<Batch>],
     words: &[u64],
-) -> Result<(Vec<Look>, Vec<Look>), BookFault>
+) -> Result<(Vec<Look>, Vec<Look>, Vec<(u32, u64)>), BookFault>
     requires name { sheet.table ≡ N.table }
     requires stripes { sheet.plan.stripes ≡ stripe_count setup.now }
 {
-    let (stripes, share) = stripes_of::<N>(alloc, setup, sheet)?;
-    looks_around(rt, alloc, &stripes, share, batches, words)
+    let (stripes, mut share) = stripes_of::<N>(alloc, setup, sheet)?;
+    let (before, after) = looks_around(rt, alloc, &stripes, &mut share, batches, words)?;
+    Ok((before, after, totals_at_end(alloc, stripes, share)?))
 }
 
 // The results of looks for the words before and after the batches are booked.
@@ -394,47 +362,16 @@ fn looks_around<N: Books, R: Wait>(
     rt: &R,
     alloc: Global,
     stripes: &Stripes<PlainCounts, Open<N>>,
-    mut share: Share<Open<N>>,
+    share: &mut Share<Open<N>>,
     batches: &[Arc<Batch>],
     words: &[u64],
 ) -> Result<(Vec<Look>, Vec<Look>), BookFault> {
-    let before = looks_of(rt, alloc, stripes, &mut share, words)?;
-    let (mut share, booked) = book_all(rt, alloc, stripes, share, batches);
-    booked?;
-    let after = looks_of(rt, alloc, stripes, &mut share, words)?;
+    let before = looks_of(rt, alloc, stripes, share, words)?;
+    for batch in batches {
+        book_batch(rt, alloc, stripes, share, batch)?;
+    }
+    let after = looks_of(rt, alloc, stripes, share, words)?;
     Ok((before, after))
-}
-
-// Books a batch everywhere, and looks the words up: how often each was counted. Then the sharing ends: the numbers and
-// the totals of the stripes, as they come.
-fn book_look_and_end<N: Books, R: Wait>(
-    rt: &R,
-    alloc: Global,
-    setup: &Setup,
-    sheet: Sheet,
-    batch: &Arc<Batch>,
-    words: &[u64],
-) -> Result<(Vec<u64>, Vec<(u32, u64)>), Fail>
-    requires name { sheet.table ≡ N.table }
-    requires stripes { sheet.plan.stripes ≡ stripe_count setup.now }
-{
-    let (stripes, mut share) = stripes_of::<N>(alloc, setup, sheet)?;
-    let counts = book_and_count(rt, alloc, &stripes, &mut share, batch, words)?;
-    let totals = totals_at_end(alloc, stripes, share)?;
-    Ok((counts, totals))
-}
-
-// Books a batch everywhere: how often each of the words was then counted.
-fn book_and_count<N: Books, R: Wait>(
-    rt: &R,
-    alloc: Global,
-    stripes: &Stripes<PlainCounts, Open<N>>,
-    share: &mut Share<Open<N>>,
-    batch: &Arc<Batch>,
-    words: &[u64],
-) -> Result<Vec<u64>, Fail> {
-    book_batch(rt, alloc, stripes, share, batch)?;
-    counts_of(rt, alloc, stripes, share, words)
 }
 
 // The sharing ends: the numbers and the totals of the stripes, as they come.
@@ -444,50 +381,11 @@ fn totals_at_end<N: Books>(
     share: Share<Open<N>>,
 ) -> Result<Vec<(u32, u64)>, AllocError> {
     let (stripes, _) = stripes.into_stripes(alloc, share)?;
-    totals_of(alloc, &stripes)
-}
-
-// The numbers and the totals of stripes.
-fn totals_of(
-    alloc: Global,
-    stripes: &[Stripe<PlainCounts>],
-) -> Result<Vec<(u32, u64)>, AllocError> {
     let mut totals = Vec::new(alloc);
-    for stripe in stripes {
+    for stripe in &stripes {
         totals.push((stripe.number(), stripe.total()))?;
     }
     Ok(totals)
-}
-
-// ACG, CGT and AAA, and how often each occurs in ACGT.
-const WORDS: &[u64] = &[6, 27, 0];
-
-const COUNTS: &[u64] = &[1, 1, 0];
-
-// The stripes, and how many words of ACGT fall in each.
-const TOTALS: &[(u32, u64)] = &[(0, 0), (1, 0), (2, 1), (3, 1)];
-
-#[test]
-fn each_stripe_is_found_under_its_own_lock(rt: HostRuntime) -> Result<(), Fail> {
-    let alloc = rt.alloc();
-    let setup = made_setup(3, 4)?;
-    let batches = batches_in(alloc, &setup, &[b"ACGT"], 8)?;
-    assert!(rt; !batches.is_empty());
-    find_stripes(&rt, alloc, &setup, &batches[0])
-}
-
-// Each word is counted in its own stripe, and each stripe has its own total.
-fn find_stripes<R: Wait + Abort>(
-    rt: &R,
-    alloc: Global,
-    setup: &Setup,
-    batch: &Arc<Batch>,
-) -> Result<(), Fail> {
-    let sheet = Sheet::new(alloc, setup.stripes(), 1)?;
-    let (counts, totals) = book_look_and_end::<Brand, _>(rt, alloc, setup, sheet, batch, WORDS)?;
-    assert_items(rt, "counts", counts.as_slice(), COUNTS);
-    assert_items(rt, "totals", totals.as_slice(), TOTALS);
-    Ok(())
 }
 
 // ACG and its reverse complement CGT, AAC and its reverse complement GTT, and TTT, whose reverse complement is AAA. By
@@ -500,6 +398,9 @@ const NOT_YET: &[Look] = &[Ok((0, 0)), Ok((0, 0)), Ok((0, 0)), Ok((0, 0)), Ok((0
 // How often each form occurs in ACGT and CGTT, which are a batch each: ACG and CGT, and CGT and GTT.
 const TOGETHER: &[Look] = &[Ok((3, 2)), Ok((3, 2)), Ok((1, 2)), Ok((1, 2)), Ok((0, 2))];
 
+// The stripes, and how many words of both are in each.
+const TOTALS: &[(u32, u64)] = &[(0, 0), (1, 1), (2, 3), (3, 0)];
+
 #[test]
 fn a_word_is_found_under_the_lock_of_its_form(rt: HostRuntime) -> Result<(), Fail> {
     let alloc = rt.alloc();
@@ -511,7 +412,7 @@ fn a_word_is_found_under_the_lock_of_its_form(rt: HostRuntime) -> Result<(), Fai
     find_forms(&rt, alloc, &setup, &batches)
 }
 
-// Each word is looked up in the stripe of its form.
+// Each word is looked up in the stripe of its form, and each stripe has its own total.
 fn find_forms<R: Wait + Abort>(
     rt: &R,
     alloc: Global,
@@ -519,10 +420,11 @@ fn find_forms<R: Wait + Abort>(
     batches: &[Arc<Batch>],
 ) -> Result<(), Fail> {
     let sheet = Sheet::new(alloc, setup.stripes(), 1)?;
-    let (before, after) = look_book_and_look::<Brand, _>(
+    let (before, after, totals) = look_book_and_look::<Brand, _>(
         rt, alloc, setup, sheet, batches, STRANDS,
     )?;
     assert_items(rt, "before", before.as_slice(), NOT_YET);
     assert_items(rt, "after", after.as_slice(), TOGETHER);
+    assert_items(rt, "totals", totals.as_slice(), TOTALS);
     Ok(())
 }

@@ -1,4 +1,4 @@
-//! Shares of one sheet, in one thread and in two.
+//! Shares of one sheet, and the journals of its stripes.
 ghost use Rattle.std.specs.Prelude.{◌≡◌, ◌<◌, ◌≤◌, ◌^◌, [], length, All, IfOk, IfSome, MatchBool};
 ghost use Rattle.kc_share.specs.Entries.{entry_of, word_total};
 ghost use Rattle.kc_share.specs.Share.{share_of, word_total_in, entry_total_in, with_booking};
@@ -11,7 +11,6 @@ use std::alloc::{AllocError, Global};
 use std::marker::Brand;
 use std::sync::{Arc, Mutex, Wait};
 use std::test::Fail;
-use std::thread::{Threads, join};
 
 // What lies behind a lock: a keeper, its stripe's number, and the sums of its journal.
 #[derive(Drop)]
@@ -133,9 +132,9 @@ fn locks_of<N: Books>(
     Ok((sheet, locks, share))
 }
 
-// Two threads, with a share of one part each, book half of the batches each, everywhere. Then the shares are joined,
-// and each stripe is settled: what its journal has, and what the whole share has.
-fn book_by_two<N: Books + Send + Sync, R: Threads + Wait + Sync>(
+// Two shares of one part each book half of the batches each, everywhere. Then they are joined, and each stripe is
+// settled: what its journal has, and what the whole share has.
+fn book_by_two<N: Books, R: Wait>(
     rt: &R,
     alloc: Global,
     sheet: Sheet,
@@ -151,7 +150,7 @@ fn book_by_two<N: Books + Send + Sync, R: Threads + Wait + Sync>(
 }
 
 // The share is split in two, both book, and they are joined.
-fn book_under<N: Books + Send + Sync, R: Threads + Wait + Sync>(
+fn book_under<N: Books, R: Wait>(
     rt: &R,
     sheet: &OpenSheet<N>,
     locks: &[Mutex<Locked<N>>],
@@ -163,7 +162,8 @@ fn book_under<N: Books + Send + Sync, R: Threads + Wait + Sync>(
 {
     let other = sheet.split(&mut one);
     let (first, second) = batches.split_at(batches.len() / 2);
-    let (mut whole, other) = book_halves(rt, sheet, locks, (one, other), (first, second));
+    let mut whole = book_all(rt, sheet, locks, one, first);
+    let other = book_all(rt, sheet, locks, other, second);
     sheet.join(&mut whole, other);
     whole
 }
@@ -191,84 +191,16 @@ fn settle_all<N: Books>(
     Ok(sums)
 }
 
-// Each share books its half of the batches in a thread of its own.
-fn book_halves<N: Books + Send + Sync, R: Threads + Wait + Sync>(
-    rt: &R,
-    sheet: &OpenSheet<N>,
-    locks: &[Mutex<Locked<N>>],
-    shares: (Share<N>, Share<N>),
-    halves: (&[Arc<Batch>], &[Arc<Batch>]),
-) -> (Share<N>, Share<N>)
-    ensures first { (result.0.parts ≡ shares.0.parts) × (result.0.plan ≡ shares.0.plan) }
-    ensures second { (result.1.parts ≡ shares.1.parts) × (result.1.plan ≡ shares.1.plan) }
-{
-    let (one, other) = shares;
-    let (first, second) = halves;
-    join(
-        rt,
-        move || -> Share<N>
-            ensures { (result.parts ≡ one.parts) × (result.plan ≡ one.plan) }
-        { book_all(rt, sheet, locks, one, first) },
-        move || -> Share<N>
-            ensures { (result.parts ≡ other.parts) × (result.plan ≡ other.plan) }
-        { book_all(rt, sheet, locks, other, second) },
-    )
-}
-
 // What each of the two stripes has: words 1 to 8 add up to 36.
 const SUMS: &[((u64, u64), (u64, u64))] = &[((36, 8), (36, 8)), ((36, 8), (36, 8))];
 
 #[test]
-fn what_two_threads_booked_is_what_the_journals_have(rt: HostRuntime) -> Result<(), Fail> {
+fn what_two_shares_booked_is_what_the_journals_have(rt: HostRuntime) -> Result<(), Fail> {
     let alloc = rt.alloc();
     let batches = batches(alloc)?;
     assert_same(&rt, "batches", &batches.len(), &8);
     let sheet = Sheet::new(alloc, 2, 2)?;
     let sums = book_by_two::<Brand, _>(&rt, alloc, sheet, batches.as_slice())?;
     assert_items(&rt, "stripes", sums.as_slice(), SUMS);
-    Ok(())
-}
-
-// Of a share of three parts one is split off. The share books 5 words into stripe 1, the other 7 words into stripe 0,
-// and the shares are joined.
-fn book_by_hand<N: Books>(sheet: Sheet, batch: &Batch) -> [[u64; 5]; 3]
-    requires name { sheet.table ≡ N.table }
-    requires plan { (sheet.plan.stripes ≡ 2) × (sheet.plan.parts ≡ 3) }
-{
-    let (sheet, mut opening) = sheet.open::<N>();
-    let mut zeroth = sheet.next_keeper(&mut opening);
-    let mut first = sheet.next_keeper(&mut opening);
-    let mut share = sheet.first_share(opening);
-    let mut other = sheet.split(&mut share);
-    sheet.note(&mut share, &mut first, batch, 5);
-    sheet.note(&mut other, &mut zeroth, batch, 7);
-    let apart = [numbers_of(&share), numbers_of(&other)];
-    sheet.join(&mut share, other);
-    [apart[0], apart[1], numbers_of(&share)]
-}
-
-// The words and the entries in the stripes 0 and 1, and the parts.
-fn numbers_of<N: Books>(share: &Share<N>) -> [u64; 5]
-    requires { 2 ≤ share.now.plan.stripes }
-{
-    [
-        share.words(0),
-        share.words(1),
-        share.entries(0),
-        share.entries(1),
-        share.parts(),
-    ]
-}
-
-#[test]
-fn a_batch_is_booked_into_its_stripe(rt: HostRuntime) -> Result<(), Fail> {
-    let alloc = rt.alloc();
-    let batches = batches(alloc)?;
-    assert!(rt; !batches.is_empty());
-    let sheet = Sheet::new(alloc, 2, 3)?;
-    let numbers = book_by_hand::<Brand>(sheet, &batches[0]);
-    assert_same(&rt, "one share", &numbers[0], &[0, 5, 0, 1, 2]);
-    assert_same(&rt, "the other", &numbers[1], &[7, 0, 1, 0, 1]);
-    assert_same(&rt, "both", &numbers[2], &[7, 5, 1, 1, 3]);
     Ok(())
 }

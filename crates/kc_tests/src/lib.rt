@@ -1,5 +1,5 @@
-//! Tests that cross the crates: whole command lines, lists of sources and of words, tables that are added, and sources
-//! and writers that fail.
+//! Tests that cross the crates: whole command lines, lists of sources and of words, what is reported meanwhile, and
+//! sources and writers that fail.
 #![tactic(auto)]
 
 #[cfg(test)]
@@ -10,8 +10,6 @@ mod listed_reads;
 mod progress_line;
 #[cfg(test)]
 mod source_lists;
-#[cfg(test)]
-mod tables_together;
 #[cfg(test)]
 mod told_bytes;
 #[cfg(test)]

@@ -1,7 +1,7 @@
 //! Counts that are kept to the words of a list.
 use crate::source_lists::{Counted, Slow, assert_counted, counted_of, fault_of, sources_of};
 use kc_fastx::{FastxFault, FromBytes, FromRead};
-use kc_tool::{Dump, K, Options, Print, ToolFault};
+use kc_tool::{Dump, K, Options, Print};
 use std::process::Abort;
 use std::sync::Wait;
 use std::test::Fail;
@@ -9,27 +9,27 @@ use std::thread::Threads;
 
 // How to count: the length of the words, whether both strands count, and the least quality that counts.
 #[derive(Clone, Copy)]
-pub(crate) struct How {
-    pub(crate) k: u32,
-    pub(crate) both: bool,
-    pub(crate) floor: u8,
+struct How {
+    k: u32,
+    both: bool,
+    floor: u8,
 }
 
 // One strand, and every quality.
-pub(crate) const PLAIN: How = How {
+const PLAIN: How = How {
     k: 3,
     both: false,
     floor: b'!',
 };
 
-pub(crate) const BOTH: How = How {
+const BOTH: How = How {
     k: 3,
     both: true,
     floor: b'!',
 };
 
 // Options of a count, and of its report.
-pub(crate) fn options_of<H: Abort>(rt: &H, how: How, print: Print) -> Result<Options, Fail> {
+fn options_of<H: Abort>(rt: &H, how: How, print: Print) -> Result<Options, Fail> {
     let floor = how.floor;
     assert!(rt; 33 <= floor && floor <= 126);
     let Some(k) = K::new(how.k) else {
@@ -45,7 +45,7 @@ pub(crate) fn options_of<H: Abort>(rt: &H, how: How, print: Print) -> Result<Opt
 }
 
 // Counts the words of a list in these inputs.
-pub(crate) fn count_listed<H: Threads + Wait + Sync + AllocGlobal>(
+fn count_listed<H: Threads + Wait + Sync + AllocGlobal>(
     rt: &H,
     list: &str,
     inputs: &[&str],
@@ -117,30 +117,8 @@ const LISTED: &[(How, &str, &[&str], &str)] = &[
     ),
 ];
 
-#[test]
-fn listed_words_alone_are_written(rt: HostRuntime) -> Result<(), Fail> {
-    for (row, (how, list, inputs, text)) in LISTED.iter().enumerate() {
-        let options = options_of(&rt, *how, Print::Dump)?;
-        assert_listed(&rt, row, *list, *inputs, &options, text.as_bytes())?;
-    }
-    Ok(())
-}
-
-// Asserts that this is written of the words of a list in these inputs.
-fn assert_listed<H: Threads + Wait + Abort + Sync + AllocGlobal>(
-    rt: &H,
-    row: usize,
-    list: &str,
-    inputs: &[&str],
-    options: &Options,
-    text: &[u8],
-) -> Result<(), Fail> {
-    let counted = count_listed(rt, list, inputs, options)?;
-    assert_counted(rt, row, &counted, &Ok(()), text);
-    Ok(())
-}
-
-// Reports on the words of a list in ACGTA.
+// Reports on the words of a list in ACGTA. A table records that a list was given; the reads of the list are not among
+// those that it counts.
 const REPORTS: &[(&str, Print, &str)] = &[
     (
         "",
@@ -156,12 +134,17 @@ const REPORTS: &[(&str, Print, &str)] = &[
     (">w\nCGT\n>x\nAAA\n", Print::Histo, "1 1\n"),
 ];
 
-// A table records that a list was given; the reads of the list are not among those that it counts.
 #[test]
-fn reports_on_listed_words(rt: HostRuntime) -> Result<(), Fail> {
+fn listed_words_alone_are_written(rt: HostRuntime) -> Result<(), Fail> {
+    for (row, (how, list, inputs, text)) in LISTED.iter().enumerate() {
+        let options = options_of(&rt, *how, Print::Dump)?;
+        let counted = count_listed(&rt, *list, *inputs, &options)?;
+        assert_counted(&rt, row, &counted, &Ok(()), text.as_bytes());
+    }
     for (row, (list, print, text)) in REPORTS.iter().enumerate() {
         let options = options_of(&rt, PLAIN, *print)?;
-        assert_listed(&rt, row, *list, &[ACGTA], &options, text.as_bytes())?;
+        let counted = count_listed(&rt, *list, &[ACGTA], &options)?;
+        assert_counted(&rt, row, &counted, &Ok(()), text.as_bytes());
     }
     Ok(())
 }
@@ -213,22 +196,10 @@ fn count_with_a_slow_list<H: Threads + Wait + Abort + Sync + AllocGlobal>(
 fn slow_and_failing_lists(rt: HostRuntime) -> Result<(), Fail> {
     let failed = Err(fault_of(0, FastxFault::Read));
     for n in 0..8 {
-        assert_slow_list(&rt, n, &failed, b"")?;
+        let counted = count_with_a_slow_list(&rt, n)?;
+        assert_counted(&rt, n, &counted, &failed, b"");
     }
-    for n in 8..10 {
-        assert_slow_list(&rt, n, &Ok(()), b"CGT 1\n")?;
-    }
-    Ok(())
-}
-
-// Asserts what is returned and written if the list fails at its n-th read.
-fn assert_slow_list<H: Threads + Wait + Abort + Sync + AllocGlobal>(
-    rt: &H,
-    n: usize,
-    answer: &Result<(), ToolFault>,
-    text: &[u8],
-) -> Result<(), Fail> {
-    let counted = count_with_a_slow_list(rt, n)?;
-    assert_counted(rt, n, &counted, answer, text);
+    let counted = count_with_a_slow_list(&rt, 8)?;
+    assert_counted(&rt, 8, &counted, &Ok(()), b"CGT 1\n");
     Ok(())
 }

@@ -345,19 +345,6 @@ fn the_line_is_written_over_and_cleared(rt: HostRuntime) -> Result<(), Fail> {
     Ok(())
 }
 
-#[test]
-fn a_line_is_written_eight_times_a_second(rt: HostRuntime) -> Result<(), Fail> {
-    let (clock, screen) = (SetClock::new(false), Screen::new(&rt, true));
-    let line = ProgressLine::new(&clock, &screen, false);
-    for millis in 1..=3_000 {
-        clock.millis.store(millis, Ordering::SeqCst);
-        line.after_book(0, 0);
-        let is_written = !screen.take_bytes(&rt)?.is_empty();
-        assert_same(&rt, millis, &is_written, &(millis % 125 == 0));
-    }
-    Ok(())
-}
-
 // Asserts that a line with this clock and screen writes nothing for these reports.
 fn assert_nothing_shown<H: Abort + AllocGlobal>(
     rt: &H,
@@ -648,7 +635,7 @@ fn assert_run<H: Files + Threads + Wait + Abort + Sync + AllocGlobal>(
     example: &Run,
 ) -> Result<(), AllocError> {
     let alloc = rt.alloc();
-    let words = words_of(alloc, example.0, ' ')?;
+    let words = words_of(alloc, example.0)?;
     let heard = Heard::nothing();
     let mut written = writer_behind(alloc, &heard.texts);
     let mut told = writer_behind(alloc, &heard.ends);
@@ -674,13 +661,4 @@ fn a_count_tells_its_bytes_and_batches(rt: HostRuntime) -> Result<(), AllocError
         assert_run(&rt, run)?;
     }
     Ok(())
-}
-
-#[test]
-fn no_progress_takes_all_that_is_told() {
-    for (_, lines) in TABLES {
-        for (_, told, _) in *lines {
-            tell(&NoProgress, *told);
-        }
-    }
 }

@@ -192,7 +192,7 @@ fn assert_row<H: Threads + Wait + Abort + Sync + AllocGlobal>(
     let heard = Heard::nothing();
     let mut written = Vec::new(alloc);
     let mut errors = Vec::new(alloc);
-    let words = words_of(alloc, format!(in alloc; "{COUNT}{end}")?.as_str(), ' ')?;
+    let words = words_of(alloc, format!(in alloc; "{COUNT}{end}")?.as_str())?;
     let input = if *is_long { long } else { b"" };
     run(
         &given,

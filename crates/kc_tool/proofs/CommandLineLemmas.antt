@@ -70,8 +70,9 @@ has_verb name (inr (inr (inr (inr (inr (inl is)))))) = (verb.Merge, is)
 has_verb name (inr (inr (inr (inr (inr (inr (inl is))))))) = (verb.Intersect, is)
 has_verb name (inr (inr (inr (inr (inr (inr (inr (inl is)))))))) = (verb.Subtract, is)
 has_verb name (inr (inr (inr (inr (inr (inr (inr (inr (inl is))))))))) = (verb.Filter, is)
-has_verb name (inr (inr (inr (inr (inr (inr (inr (inr (inr (inl is)))))))))) = (verb.Select, is)
-has_verb name (inr (inr (inr (inr (inr (inr (inr (inr (inr (inr is)))))))))) = (verb.Profile, is)
+has_verb name (inr (inr (inr (inr (inr (inr (inr (inr (inr (inl is)))))))))) = (verb.Compare, is)
+has_verb name (inr (inr (inr (inr (inr (inr (inr (inr (inr (inr (inl is))))))))))) = (verb.Select, is)
+has_verb name (inr (inr (inr (inr (inr (inr (inr (inr (inr (inr (inr is))))))))))) = (verb.Profile, is)
 
 -- `clap` takes the arguments if nothing fails
 taken : (arguments : List Text) (matches : ArgMatches) → fault_of kcount_app arguments ≡ [] → subcommand_rows_of matches ≡ subcommand_of kcount_app arguments
@@ -106,6 +107,7 @@ verb_found verb.Merge = refl
 verb_found verb.Intersect = refl
 verb_found verb.Subtract = refl
 verb_found verb.Filter = refl
+verb_found verb.Compare = refl
 verb_found verb.Select = refl
 verb_found verb.Profile = refl
 

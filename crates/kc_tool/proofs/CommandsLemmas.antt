@@ -11,7 +11,10 @@ use Rattle.kc_io.specs.Sources.{Seen}
 use Rattle.kc_tool.specs.Tallies.{TableSeen}
 use Rattle.kc_tool.specs.FileEvents.{FileEvent, opened}
 use Rattle.kc_tool.specs.NamedSources.{names_of, seen_of}
-use Rattle.kc_combine.specs.declared.combining.Combining.{Combining}
+use Rattle.kc_combine.specs.CombinedTexts.{GiveTables}
+use Rattle.kc_combine.specs.Derivations.{TakesTables}
+use Rattle.kc_combine.specs.declared.derived.Derived.{Derived}
+use Rattle.kc_combine.specs.declared.derived.Derived.TheVariants as derive
 use Rattle.kc_command.specs.Arguments.{has_pairs, has_two_files, is_given, pairs_refusal, refusal_of_outputs, refusal_of_pairs, refusal_of_reads}
 use Rattle.kc_command.specs.declared.pair_options.PairsRefusal.TheVariants as refusal
 use Rattle.kc_select.specs.declared.sides.Sides.{Sides}
@@ -26,19 +29,20 @@ use Rattle.kc_tool.specs.declared.told.Told.{Told}
 use Rattle.kc_tool.specs.declared.told.Told.TheVariants as says
 use Rattle.kc_tool.specs.Commands.{Answers, Does, HasFilesFor, IsTallyFor, behind_list, given_of, sources_in}
 use Rattle.kc_tool.specs.Commands.{AreFilesOf, AsksForTask, DoesApart, DoesTaskApart, DoesTaskInto, EndsSo, GoTogether, IsRefused, IsRefusedOption, KeepsInput, LacksOutput, LacksSecondFile, WritesTwo, behind_table, second_of}
-use Rattle.kc_tool.specs.Commands.{IsCombination, OpensOnce, Surroundings, files_of, first_refused, opened_by, stage_after, stage_before}
+use Rattle.kc_tool.specs.Commands.{AsksForText, DerivesFiles, HasTablesFor, OpensOnce, Surroundings, files_of, sources_from, first_refused, opened_by, stage_after, stage_before}
 use Rattle.kc_tool.specs.declared.named_sources.NamedSource.{NamedSource}
 use Rattle.kc_tool.specs.declared.tool_faults.ToolFault.{ToolFault}
 use Rattle.kc_tool.specs.declared.tool_faults.ToolFault.TheVariants.{Fastx, BadHeader, BadRow, BadEnd, TableTooLong, TableRead, Memory, BadOption, BadWord, Write, Run, OpenFailed, Unlike, TooLarge, BrokenTable, ShortTable, Unpaired}
 use Rattle.kc_tool.specs.declared.commands.Task.{Task}
-use Rattle.kc_tool.specs.declared.commands.Task.TheVariants.{Count, CountListed, Report, Query, Combine, CombineFiles, Select, SelectPairs}
+use Rattle.kc_tool.specs.declared.commands.Task.TheVariants.{Count, CountListed, Report, Query, Derive, DeriveFiles, Select, SelectPairs}
 use Rattle.kc_tool.specs.declared.commands.Verb.{Verb}
 use Rattle.kc_tool.specs.declared.commands.Verb.TheVariants as verb
 use Rattle.kc_tool.specs.Reports.{ReportsOn, report_of, report_text}
 use Rattle.kc_command.specs.Settings.{Settings}
 use Rattle.kc_tool.proofs.FilesLemmas.{PairedTo, unread_back}
-use Rattle.kc_tool.proofs.GivenLemmas.{same_input}
+use Rattle.kc_tool.proofs.GivenLemmas.{same_input, some_from}
 use Rattle.kc_tool.proofs.ReportsLemmas.{text_fault}
+use Rattle.kc_tool.proofs.TwoPassesLemmas.{takes_some}
 
 -- a task is done with sources that were opened, and they are given back
 pub record DoesTask (sources : List (NamedSource Seen)) (task : Task) (old new : Surroundings)
@@ -100,6 +104,47 @@ module _ (rows : List Row) where
         omega (arith, ap length are, counted)
     pick false two e = cc
 
+  -- A command has the tables from which its text is derived.
+  text_files : (command : Verb) (derived : Derived) (names : List Text) → AsksForText command rows derived
+      → names ≡ files_of command rows → HasTablesFor derived (length names)
+  text_files command (derive.Table combining) names asks are = tt
+  text_files verb.Dump (derive.Dump dump) names asks are = one_of names (files_named rows) are
+  text_files verb.Count (derive.Dump dump) names asks are = absurd asks
+  text_files verb.Histo (derive.Dump dump) names asks are = absurd asks
+  text_files verb.Stats (derive.Dump dump) names asks are = absurd asks
+  text_files verb.Query (derive.Dump dump) names asks are = absurd asks
+  text_files verb.Merge (derive.Dump dump) names asks are = absurd asks
+  text_files verb.Intersect (derive.Dump dump) names asks are = absurd asks
+  text_files verb.Subtract (derive.Dump dump) names asks are = absurd asks
+  text_files verb.Filter (derive.Dump dump) names asks are = absurd asks
+  text_files verb.Compare (derive.Dump dump) names asks are = absurd asks
+  text_files verb.Select (derive.Dump dump) names asks are = absurd asks
+  text_files verb.Profile (derive.Dump dump) names asks are = absurd asks
+  text_files verb.Count (derive.Comparison solid) names asks are = absurd asks
+  text_files verb.Dump (derive.Comparison solid) names asks are = absurd asks
+  text_files verb.Histo (derive.Comparison solid) names asks are = absurd asks
+  text_files verb.Stats (derive.Comparison solid) names asks are = absurd asks
+  text_files verb.Query (derive.Comparison solid) names asks are = absurd asks
+  text_files verb.Merge (derive.Comparison solid) names asks are = absurd asks
+  text_files verb.Intersect (derive.Comparison solid) names asks are = absurd asks
+  text_files verb.Subtract (derive.Comparison solid) names asks are = absurd asks
+  text_files verb.Filter (derive.Comparison solid) names asks are = absurd asks
+  text_files verb.Compare (derive.Comparison solid) names asks are = ap length are
+  text_files verb.Select (derive.Comparison solid) names asks are = absurd asks
+  text_files verb.Profile (derive.Comparison solid) names asks are = absurd asks
+  text_files verb.Count (derive.Spectrum high) names asks are = absurd asks
+  text_files verb.Dump (derive.Spectrum high) names asks are = absurd asks
+  text_files verb.Histo (derive.Spectrum high) names asks are = absurd asks
+  text_files verb.Stats (derive.Spectrum high) names asks are = absurd asks
+  text_files verb.Query (derive.Spectrum high) names asks are = absurd asks
+  text_files verb.Merge (derive.Spectrum high) names asks are = absurd asks
+  text_files verb.Intersect (derive.Spectrum high) names asks are = absurd asks
+  text_files verb.Subtract (derive.Spectrum high) names asks are = absurd asks
+  text_files verb.Filter (derive.Spectrum high) names asks are = absurd asks
+  text_files verb.Compare (derive.Spectrum high) names asks are = ap length are
+  text_files verb.Select (derive.Spectrum high) names asks are = absurd asks
+  text_files verb.Profile (derive.Spectrum high) names asks are = absurd asks
+
   -- A command has the files that its task wants, if it does not open them twice.
   pub has_files : (command : Verb) (task : Task) (names : List Text) → GoTogether command rows → AsksForTask command rows task
       → names ≡ files_of command rows → OpensOnce task → HasFilesFor task names
@@ -108,88 +153,96 @@ module _ (rows : List Row) where
       has_list asks.1.0 (files_named rows) names (are ∙ ap (λ only. behind_list only (files_named rows)) asks.1.1)
   has_files verb.Count (Report report) names together asks are once = absurd asks
   has_files verb.Count (Query words) names together asks are once = absurd asks
-  has_files verb.Count (Combine combining) names together asks are once = absurd asks
-  has_files verb.Count (CombineFiles combining) names together asks are once = absurd asks
+  has_files verb.Count (Derive derived) names together asks are once = absurd asks
+  has_files verb.Count (DeriveFiles derived) names together asks are once = absurd asks
   has_files verb.Count (Select rule tells) names together asks are once = absurd asks
   has_files verb.Count (SelectPairs pairing) names together asks are once = absurd asks
   has_files verb.Dump (Count settings) names together asks are once = absurd asks
   has_files verb.Dump (CountListed settings) names together asks are once = absurd asks
-  has_files verb.Dump (Report report) names together asks are once = one_of names (files_named rows) are
+  has_files verb.Dump (Report report) names together asks are once = absurd asks
   has_files verb.Dump (Query words) names together asks are once = absurd asks
-  has_files verb.Dump (Combine combining) names together asks are once = absurd asks
-  has_files verb.Dump (CombineFiles combining) names together asks are once = absurd asks
+  has_files verb.Dump (Derive derived) names together asks are once = text_files verb.Dump derived names asks are
+  has_files verb.Dump (DeriveFiles derived) names together asks are once = absurd once
   has_files verb.Dump (Select rule tells) names together asks are once = absurd asks
   has_files verb.Dump (SelectPairs pairing) names together asks are once = absurd asks
   has_files verb.Histo (Count settings) names together asks are once = absurd asks
   has_files verb.Histo (CountListed settings) names together asks are once = absurd asks
   has_files verb.Histo (Report report) names together asks are once = one_of names (files_named rows) are
   has_files verb.Histo (Query words) names together asks are once = absurd asks
-  has_files verb.Histo (Combine combining) names together asks are once = absurd asks
-  has_files verb.Histo (CombineFiles combining) names together asks are once = absurd asks
+  has_files verb.Histo (Derive derived) names together asks are once = absurd asks
+  has_files verb.Histo (DeriveFiles derived) names together asks are once = absurd asks
   has_files verb.Histo (Select rule tells) names together asks are once = absurd asks
   has_files verb.Histo (SelectPairs pairing) names together asks are once = absurd asks
   has_files verb.Stats (Count settings) names together asks are once = absurd asks
   has_files verb.Stats (CountListed settings) names together asks are once = absurd asks
   has_files verb.Stats (Report report) names together asks are once = one_of names (files_named rows) are
   has_files verb.Stats (Query words) names together asks are once = absurd asks
-  has_files verb.Stats (Combine combining) names together asks are once = absurd asks
-  has_files verb.Stats (CombineFiles combining) names together asks are once = absurd asks
+  has_files verb.Stats (Derive derived) names together asks are once = absurd asks
+  has_files verb.Stats (DeriveFiles derived) names together asks are once = absurd asks
   has_files verb.Stats (Select rule tells) names together asks are once = absurd asks
   has_files verb.Stats (SelectPairs pairing) names together asks are once = absurd asks
   has_files verb.Query (Count settings) names together asks are once = absurd asks
   has_files verb.Query (CountListed settings) names together asks are once = absurd asks
   has_files verb.Query (Report report) names together asks are once = absurd asks
   has_files verb.Query (Query words) names together asks are once = one_of names (files_named rows) are
-  has_files verb.Query (Combine combining) names together asks are once = absurd asks
-  has_files verb.Query (CombineFiles combining) names together asks are once = absurd asks
+  has_files verb.Query (Derive derived) names together asks are once = absurd asks
+  has_files verb.Query (DeriveFiles derived) names together asks are once = absurd asks
   has_files verb.Query (Select rule tells) names together asks are once = absurd asks
   has_files verb.Query (SelectPairs pairing) names together asks are once = absurd asks
   has_files verb.Merge (Count settings) names together asks are once = absurd asks
   has_files verb.Merge (CountListed settings) names together asks are once = absurd asks
   has_files verb.Merge (Report report) names together asks are once = absurd asks
   has_files verb.Merge (Query words) names together asks are once = absurd asks
-  has_files verb.Merge (Combine combining) names together asks are once = tt
-  has_files verb.Merge (CombineFiles combining) names together asks are once = absurd once
+  has_files verb.Merge (Derive derived) names together asks are once = text_files verb.Merge derived names asks are
+  has_files verb.Merge (DeriveFiles derived) names together asks are once = absurd once
   has_files verb.Merge (Select rule tells) names together asks are once = absurd asks
   has_files verb.Merge (SelectPairs pairing) names together asks are once = absurd asks
   has_files verb.Intersect (Count settings) names together asks are once = absurd asks
   has_files verb.Intersect (CountListed settings) names together asks are once = absurd asks
   has_files verb.Intersect (Report report) names together asks are once = absurd asks
   has_files verb.Intersect (Query words) names together asks are once = absurd asks
-  has_files verb.Intersect (Combine combining) names together asks are once = tt
-  has_files verb.Intersect (CombineFiles combining) names together asks are once = absurd once
+  has_files verb.Intersect (Derive derived) names together asks are once = text_files verb.Intersect derived names asks are
+  has_files verb.Intersect (DeriveFiles derived) names together asks are once = absurd once
   has_files verb.Intersect (Select rule tells) names together asks are once = absurd asks
   has_files verb.Intersect (SelectPairs pairing) names together asks are once = absurd asks
   has_files verb.Subtract (Count settings) names together asks are once = absurd asks
   has_files verb.Subtract (CountListed settings) names together asks are once = absurd asks
   has_files verb.Subtract (Report report) names together asks are once = absurd asks
   has_files verb.Subtract (Query words) names together asks are once = absurd asks
-  has_files verb.Subtract (Combine combining) names together asks are once = tt
-  has_files verb.Subtract (CombineFiles combining) names together asks are once = absurd once
+  has_files verb.Subtract (Derive derived) names together asks are once = text_files verb.Subtract derived names asks are
+  has_files verb.Subtract (DeriveFiles derived) names together asks are once = absurd once
   has_files verb.Subtract (Select rule tells) names together asks are once = absurd asks
   has_files verb.Subtract (SelectPairs pairing) names together asks are once = absurd asks
   has_files verb.Filter (Count settings) names together asks are once = absurd asks
   has_files verb.Filter (CountListed settings) names together asks are once = absurd asks
   has_files verb.Filter (Report report) names together asks are once = absurd asks
   has_files verb.Filter (Query words) names together asks are once = absurd asks
-  has_files verb.Filter (Combine combining) names together asks are once = tt
-  has_files verb.Filter (CombineFiles combining) names together asks are once = absurd once
+  has_files verb.Filter (Derive derived) names together asks are once = text_files verb.Filter derived names asks are
+  has_files verb.Filter (DeriveFiles derived) names together asks are once = absurd once
   has_files verb.Filter (Select rule tells) names together asks are once = absurd asks
   has_files verb.Filter (SelectPairs pairing) names together asks are once = absurd asks
+  has_files verb.Compare (Count settings) names together asks are once = absurd asks
+  has_files verb.Compare (CountListed settings) names together asks are once = absurd asks
+  has_files verb.Compare (Report report) names together asks are once = absurd asks
+  has_files verb.Compare (Query words) names together asks are once = absurd asks
+  has_files verb.Compare (Derive derived) names together asks are once = text_files verb.Compare derived names asks are
+  has_files verb.Compare (DeriveFiles derived) names together asks are once = absurd once
+  has_files verb.Compare (Select rule tells) names together asks are once = absurd asks
+  has_files verb.Compare (SelectPairs pairing) names together asks are once = absurd asks
   has_files verb.Select (Count settings) names together asks are once = absurd asks
   has_files verb.Select (CountListed settings) names together asks are once = absurd asks
   has_files verb.Select (Report report) names together asks are once = absurd asks
   has_files verb.Select (Query words) names together asks are once = absurd asks
-  has_files verb.Select (Combine combining) names together asks are once = absurd asks
-  has_files verb.Select (CombineFiles combining) names together asks are once = absurd asks
+  has_files verb.Select (Derive derived) names together asks are once = absurd asks
+  has_files verb.Select (DeriveFiles derived) names together asks are once = absurd asks
   has_files verb.Select (Select rule tells) names together asks are once = has_list _ (files_named rows) names are
   has_files verb.Select (SelectPairs pairing) names together asks are once = two_files names asks.2.0 together are
   has_files verb.Profile (Count settings) names together asks are once = absurd asks
   has_files verb.Profile (CountListed settings) names together asks are once = absurd asks
   has_files verb.Profile (Report report) names together asks are once = absurd asks
   has_files verb.Profile (Query words) names together asks are once = absurd asks
-  has_files verb.Profile (Combine combining) names together asks are once = absurd asks
-  has_files verb.Profile (CombineFiles combining) names together asks are once = absurd asks
+  has_files verb.Profile (Derive derived) names together asks are once = absurd asks
+  has_files verb.Profile (DeriveFiles derived) names together asks are once = absurd asks
   has_files verb.Profile (Select rule tells) names together asks are once = has_list _ (files_named rows) names are
   has_files verb.Profile (SelectPairs pairing) names together asks are once = absurd asks
 
@@ -217,13 +270,14 @@ writes_two rows verb.Merge task other together asks named = let none : ⊥ = cc 
 writes_two rows verb.Intersect task other together asks named = let none : ⊥ = cc in absurd none
 writes_two rows verb.Subtract task other together asks named = let none : ⊥ = cc in absurd none
 writes_two rows verb.Filter task other together asks named = let none : ⊥ = cc in absurd none
+writes_two rows verb.Compare task other together asks named = let none : ⊥ = cc in absurd none
 writes_two rows verb.Profile task other together asks named = let none : ⊥ = cc in absurd none
 writes_two rows verb.Select (Count settings) other together asks named = absurd asks
 writes_two rows verb.Select (CountListed settings) other together asks named = absurd asks
 writes_two rows verb.Select (Report report) other together asks named = absurd asks
 writes_two rows verb.Select (Query words) other together asks named = absurd asks
-writes_two rows verb.Select (Combine combining) other together asks named = absurd asks
-writes_two rows verb.Select (CombineFiles combining) other together asks named = absurd asks
+writes_two rows verb.Select (Derive derived) other together asks named = absurd asks
+writes_two rows verb.Select (DeriveFiles derived) other together asks named = absurd asks
 writes_two rows verb.Select (Select rule tells) other together asks named = absurd (no_reads rows other asks.2 named together)
 writes_two rows verb.Select (SelectPairs pairing) other together asks named = tt
 
@@ -234,8 +288,8 @@ as_many (Count settings) files others same h = tt
 as_many (CountListed settings) files others same h = rw same at h
 as_many (Report report) files others same h = rw same at h
 as_many (Query words) files others same h = rw same at h
-as_many (Combine combining) files others same h = tt
-as_many (CombineFiles combining) files others same h = rw same at h
+as_many (Derive derived) files others same h = rw same at h
+as_many (DeriveFiles derived) files others same h = rw same at h
 as_many (Select rule tells) files others same h = rw same at h
 as_many (SelectPairs pairing) files others same h = rw same at h
 
@@ -254,8 +308,8 @@ opens_them (Count settings) names once = refl
 opens_them (CountListed settings) names once = refl
 opens_them (Report report) names once = refl
 opens_them (Query words) names once = refl
-opens_them (Combine combining) names once = refl
-opens_them (CombineFiles combining) names once = absurd once
+opens_them (Derive derived) names once = refl
+opens_them (DeriveFiles derived) names once = absurd once
 opens_them (Select rule tells) names once = refl
 opens_them (SelectPairs pairing) names once = refl
 
@@ -271,14 +325,42 @@ has_opened task names {sources = sources} wanted opens =
 pub wants_names : (task : Task) (names : List (Bor Text)) → HasFilesFor task (map (λ name. name.now) names) → HasFilesFor task names
 wants_names task names wanted = as_many task (map (λ (name : Bor Text). name.now) names) names (length-map names (λ (name : Bor Text). name.now)) wanted
 
--- Files that are opened twice are such as a combination of files wants.
-pub wants_twice : (combining : Combining) (names : List (Bor Text)) (both : List (Bor Text)) → 1 ≤ length names
-    → map (λ name. name.now) both ≡ map (λ name. name.now) names ++ map (λ name. name.now) names → HasFilesFor (CombineFiles combining) both
-wants_twice combining names both some are =
+-- So many files, of which there is at least one, have the tables that are taken.
+pub takes_files : (derived : Derived) (n : ℕ) → HasTablesFor derived n → 1 ≤ n → TakesTables derived n
+takes_files (derive.Table combining) n h some = some
+takes_files (derive.Comparison solid) n h some = h
+takes_files (derive.Spectrum high) n h some = h
+takes_files (derive.Dump dump) n h some = omega (arith, h, some)
+
+-- So do the sources: these files, or the given input if there are none.
+pub takes_sources : (derived : Derived) (input : Seen) (files : List Seen) → HasTablesFor derived (length files)
+    → TakesTables derived (length (sources_from input files))
+takes_sources (derive.Table combining) input [] h = omega arith
+takes_sources (derive.Comparison solid) input [] h = let none : ⊥ = omega (arith, h) in absurd none
+takes_sources (derive.Spectrum high) input [] h = let none : ⊥ = omega (arith, h) in absurd none
+takes_sources (derive.Dump dump) input [] h = refl
+takes_sources (derive.Table combining) input (file ∷ files) h = omega arith
+takes_sources (derive.Comparison solid) input (file ∷ files) h = h
+takes_sources (derive.Spectrum high) input (file ∷ files) h = h
+takes_sources (derive.Dump dump) input (file ∷ files) h = omega (arith, h)
+
+-- As many tables were given as there are sources.
+pub given_long : (limit : ℕ) (olds news : List Seen) (tables : List TableSeen) → GiveTables limit olds news tables → length olds ≡ length tables
+given_long limit [] [] [] given = refl
+given_long limit [] [] (table ∷ tables) given = absurd given
+given_long limit [] (new ∷ news) tables given = absurd given
+given_long limit (old ∷ olds) [] tables given = absurd given
+given_long limit (old ∷ olds) (new ∷ news) [] given = absurd given
+given_long limit (old ∷ olds) (new ∷ news) (table ∷ tables) given = let rest = given_long limit olds news tables given.1 in omega (arith, rest)
+
+-- Files that are opened twice are such as a derivation from files wants.
+pub wants_twice : (derived : Derived) (names : List (Bor Text)) (both : List (Bor Text)) → TakesTables derived (length names)
+    → map (λ name. name.now) both ≡ map (λ name. name.now) names ++ map (λ name. name.now) names → HasFilesFor (DeriveFiles derived) both
+wants_twice derived names both takes are =
     let all = length-map both (λ (name : Bor Text). name.now) in
     let once = length-map names (λ (name : Bor Text). name.now) in
     let twice = length-append (map (λ (name : Bor Text). name.now) names) (map (λ (name : Bor Text). name.now) names) in
-    (length names, some, omega (arith, ap length are, all, once, twice))
+    (length names, takes, omega (arith, ap length are, all, once, twice))
 
 module _ (task : Task) (old new : Stage) where
   -- Nothing was written.
@@ -342,6 +424,24 @@ module _ (task : Task) (old new : Stage) where
   reported settings text said memory tallied outcome (inr h) =
       subst (λ v. DoesByTally task old new (told_of_count v)) (sym h.1)
       (undone h.0 (λ is. tallied (subst (λ v. HasNoTallyFor old.given new.given task v) is h.2)) h.3 (inl h.2))
+
+-- A task with files that are opened twice is done.
+pub done_from_files : {S : Type 0} (seen : S → Seen) (derived : Derived) (input : Seen) (olds news : List (NamedSource S)) (start now : Written)
+    (outcome : Result Told ToolFault) → HasFilesFor (DeriveFiles derived) (seen_of seen olds) → names_of news ≡ names_of olds
+    → DerivesFiles derived (seen_of seen olds) (seen_of seen news) start now outcome
+    → Does (DeriveFiles derived) (record { given = given_of (DeriveFiles derived) input (seen_of seen olds); output = start })
+    (record { given = given_of (DeriveFiles derived) input (seen_of seen news); output = now }) outcome
+done_from_files seen derived input olds news start now outcome has named done =
+    let some = takes_some derived has.0 has.1 in
+    let long = has.2 in
+    let views = length-map olds (λ (file : NamedSource _). seen file.source) in
+    let later_views = length-map news (λ (file : NamedSource _). seen file.source) in
+    let names = length-map olds (λ (file : NamedSource _). file.name.now) in
+    let later_names = length-map news (λ (file : NamedSource _). file.name.now) in
+    let same = ap length named in
+    let first : 1 ≤ length (seen_of seen olds) = omega (arith, some, long) in
+    let later : 1 ≤ length (seen_of seen news) = omega (arith, first, views, later_views, names, later_names, same) in
+    rw (some_from input (seen_of seen olds) first, some_from input (seen_of seen news) later) done
 
 -- Sources that were lent are given back as they were left.
 pub back_as_left : (asked : List FileEvent) {asked_after : List FileEvent} {lent left : List (NamedSource Seen)} → asked_after ≡ asked ++ given_back lent → lent ≡ left
@@ -429,20 +529,21 @@ module _ (command : Verb) (rows : List Row) where
   files_by command (CountListed settings) asks = inl refl
   files_by command (Report report) asks = inl refl
   files_by command (Query words) asks = inl refl
-  files_by command (Combine combining) asks = inl refl
+  files_by command (Derive derived) asks = inl refl
   files_by command (Select rule tells) asks = inl refl
   files_by command (SelectPairs pairing) asks = inl refl
-  files_by verb.Count (CombineFiles combining) asks = absurd asks
-  files_by verb.Dump (CombineFiles combining) asks = absurd asks
-  files_by verb.Histo (CombineFiles combining) asks = absurd asks
-  files_by verb.Stats (CombineFiles combining) asks = absurd asks
-  files_by verb.Query (CombineFiles combining) asks = absurd asks
-  files_by verb.Merge (CombineFiles combining) asks = inr (tt, refl)
-  files_by verb.Intersect (CombineFiles combining) asks = inr (tt, refl)
-  files_by verb.Subtract (CombineFiles combining) asks = inr (tt, refl)
-  files_by verb.Filter (CombineFiles combining) asks = inr (tt, refl)
-  files_by verb.Select (CombineFiles combining) asks = absurd asks
-  files_by verb.Profile (CombineFiles combining) asks = absurd asks
+  files_by verb.Count (DeriveFiles derived) asks = absurd asks
+  files_by verb.Dump (DeriveFiles derived) asks = inr (tt, refl)
+  files_by verb.Histo (DeriveFiles derived) asks = absurd asks
+  files_by verb.Stats (DeriveFiles derived) asks = absurd asks
+  files_by verb.Query (DeriveFiles derived) asks = absurd asks
+  files_by verb.Merge (DeriveFiles derived) asks = inr (tt, refl)
+  files_by verb.Intersect (DeriveFiles derived) asks = inr (tt, refl)
+  files_by verb.Subtract (DeriveFiles derived) asks = inr (tt, refl)
+  files_by verb.Filter (DeriveFiles derived) asks = inr (tt, refl)
+  files_by verb.Compare (DeriveFiles derived) asks = inr (tt, refl)
+  files_by verb.Select (DeriveFiles derived) asks = absurd asks
+  files_by verb.Profile (DeriveFiles derived) asks = absurd asks
 
   -- A command with two outputs opens its files once.
   opens_once : (command : Verb) {other : Text} {names : List Text} → second_of command rows ≡ Some other → AreFilesOf command rows names
@@ -452,8 +553,9 @@ module _ (command : Verb) (rows : List Row) where
   opens_once verb.Intersect second (inr both) = let none : ⊥ = cc in absurd none
   opens_once verb.Subtract second (inr both) = let none : ⊥ = cc in absurd none
   opens_once verb.Filter second (inr both) = let none : ⊥ = cc in absurd none
+  opens_once verb.Compare second (inr both) = let none : ⊥ = cc in absurd none
   opens_once verb.Count second (inr both) = absurd both.0
-  opens_once verb.Dump second (inr both) = absurd both.0
+  opens_once verb.Dump second (inr both) = let none : ⊥ = cc in absurd none
   opens_once verb.Histo second (inr both) = absurd both.0
   opens_once verb.Stats second (inr both) = absurd both.0
   opens_once verb.Query second (inr both) = absurd both.0

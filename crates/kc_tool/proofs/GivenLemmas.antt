@@ -45,7 +45,7 @@ same_input input [] = tt
 same_input input (source ∷ sources) = refl
 
 -- If there are files, they are the sources.
-some_from : (input : Seen) (files : List Seen) → 1 ≤ length files → sources_from input files ≡ files
+pub some_from : (input : Seen) (files : List Seen) → 1 ≤ length files → sources_from input files ≡ files
 some_from input [] some = absurd (omega (arith, some))
 some_from input (file ∷ files) some = refl
 

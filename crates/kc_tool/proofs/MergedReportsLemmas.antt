@@ -32,7 +32,9 @@ use Rattle.kc_report.specs.Table.{table_text}
 use Rattle.kc_io.specs.Sinks.{HasWritten, Written}
 use Rattle.kc_combine.specs.CombinedTexts.{CombinesTables, GiveTables}
 use Rattle.kc_combine.specs.JudgedTexts.{FitsInto, total_of_all}
+use Rattle.kc_combine.specs.Derivations.{DerivesTables}
 use Rattle.kc_combine.specs.declared.combining.Combining.TheVariants as combination
+use Rattle.kc_combine.specs.declared.derived.Derived.TheVariants as derive
 use Rattle.kc_combine.specs.declared.written_tables.Totals.{Totals}
 use Rattle.kc_combine.proofs.LoadedTableLemmas.{writes_merged}
 use Rattle.kc_combine.proofs.MergedLemmas.{merges_two}
@@ -443,10 +445,6 @@ wrote_two first second first_after second_after start now (table ∷ other ∷ [
       merged.2,
     )
 
-pub merge_writes : MergeWritesMerged
-merge_writes first second first_after second_after start now told is =
-    wrote_two first second first_after second_after start now is.0 is.3.0 is.1 is.3.1 (λ table other two. is.2)
-
 -- The counts of two tables whose sum was written are together at most 2 ^ 62.
 fits_two : (first second first_after second_after : Seen) (start now : Written) (tables : List TableSeen) (totals : Totals)
     → GiveTables most_table_bytes (first ∷ second ∷ []) (first_after ∷ second_after ∷ []) tables
@@ -480,6 +478,21 @@ fits_two first second first_after second_after start now tables totals given mad
           let last_rows = sum_by-cons total_of other.0.rows [] in
           omega (arith, total, is, most, all, last, rows, last_rows)
 
+-- The table text of a combination of two tables was written.
+wrote_sum : (first second first_after second_after : Seen) (start now : Written) (tables : List TableSeen) (totals : Option Totals)
+    → GiveTables most_table_bytes (first ∷ second ∷ []) (first_after ∷ second_after ∷ []) tables
+    → DerivesTables (derive.Table combination.Merge) tables start now totals
+    → (one other text : List ℕ) × TakesAll first first_after most_table_bytes one
+    × TakesAll second second_after most_table_bytes other × AreMerged one other text × HasWritten start now text
+wrote_sum first second first_after second_after start now tables None given made = absurd made
+wrote_sum first second first_after second_after start now tables (Some totals) given made =
+    wrote_two first second first_after second_after start now tables totals given made.0
+    (fits_two first second first_after second_after start now tables totals given made.0 made.1)
+
+pub merge_writes : MergeWritesMerged
+merge_writes first second first_after second_after start now told is =
+    wrote_sum first second first_after second_after start now is.0 is.2.0 is.1 is.2.1
+
 pub merge_writes_files : MergeWritesMergedFiles
 merge_writes_files one other first second one_after other_after first_after second_after start now told is =
     let files = one ∷ other ∷ first ∷ second ∷ [] in
@@ -491,8 +504,7 @@ merge_writes_files one other first second one_after other_after first_after seco
     let split : is.second ≡ first ∷ second ∷ [] = sym (drop_at is.first is.second 2 two) ∙ ap (drop 2) (sym is.are) in
     let split_after : is.second_after ≡ first_after ∷ second_after ∷ [] =
     sym (drop_at is.first_after is.second_after 2 two_after) ∙ ap (drop 2) (sym is.are_after) in
-    let texts = is.done.1.1 in
-    let given = subst (λ olds. GiveTables most_table_bytes olds (first_after ∷ second_after ∷ []) texts.tables) split
-    (subst (λ news. GiveTables most_table_bytes is.second news texts.tables) split_after texts.given) in
-    wrote_two first second first_after second_after start now texts.tables is.done.1.0 given texts.combines
-    (fits_two first second first_after second_after start now texts.tables is.done.1.0 given texts.combines is.done.1.2)
+    let (totals, (tables, gave, made), told_so) = is.done.1 in
+    let given = subst (λ olds. GiveTables most_table_bytes olds (first_after ∷ second_after ∷ []) tables) split
+    (subst (λ news. GiveTables most_table_bytes is.second news tables) split_after gave) in
+    wrote_sum first second first_after second_after start now tables totals given made

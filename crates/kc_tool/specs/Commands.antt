@@ -15,30 +15,32 @@ use Rattle.kc_report.specs.Numbers.{GivesNumbers, IsCountOf, NumbersSeen}
 use Rattle.kc_report.specs.Querying.{IsAskable, IsFirstBadWord, query_text}
 use Rattle.kc_report.specs.Table.{MaySay, table_text}
 use Rattle.kc_report.specs.TableReading.{GivesTable, RefusesTable}
-use Rattle.kc_combine.specs.CombinedTexts.{CombinesNot, CombinesTables, CombinesTexts, GiveTables}
-use Rattle.kc_combine.specs.JudgedTexts.{CanCombine, FitsInto, HasFirstFault, JudgesNot, total_of_all}
-use Rattle.kc_combine.specs.LoadedTables.{CombinesNoTables}
-use Rattle.kc_combine.specs.declared.combining.Combining.{Combining}
+use Rattle.kc_combine.specs.CombinedTexts.{GiveTables}
+use Rattle.kc_combine.specs.Derivations.{DerivesNoTables, DerivesNoTexts, DerivesTables, DerivesTexts, HasHigh}
+use Rattle.kc_combine.specs.Derivations.{TakesTables, combining_of}
+use Rattle.kc_combine.specs.JudgedTexts.{CanCombine, HasFirstFault, JudgesNot}
 use Rattle.kc_combine.specs.declared.combining.Combining.TheVariants as combination
+use Rattle.kc_combine.specs.declared.derived.Derived.{Derived}
+use Rattle.kc_combine.specs.declared.derived.Derived.TheVariants as derive
 use Rattle.kc_combine.specs.declared.placed_fault.PlacedFault.{PlacedFault}
 use Rattle.kc_combine.specs.declared.written_tables.CombineFault.{CombineFault}
 use Rattle.kc_combine.specs.declared.written_tables.Totals.{Totals}
-use Rattle.kc_command.specs.Arguments.{AsksFor, AsksForDump, first_bad, first_bad_of_dump, first_bad_of_histo, high_of}
-use Rattle.kc_command.specs.Arguments.{only_of, tables_of, AsksForFilter, AsksForIntersection, AsksForSelection}
+use Rattle.kc_command.specs.Arguments.{AsksFor, AsksForDump, first_bad, first_bad_of_dump, first_bad_of_histo}
+use Rattle.kc_command.specs.Arguments.{tables_of, AsksForFilter, AsksForIntersection, AsksForSelection}
 use Rattle.kc_command.specs.Arguments.{AsksForSubtraction, IsFlag, first_bad_of_intersect, has_too_many_tables}
 use Rattle.kc_command.specs.Arguments.{AsksForPairs, AsksForProfile, first_bad_of_profile, first_bad_of_select}
-use Rattle.kc_command.specs.Arguments.{pairs_refusal}
+use Rattle.kc_command.specs.Arguments.{AsksForMatrix, first_bad_of_compare, first_table_of, pairs_refusal}
+use Rattle.kc_command.specs.Options.{high_of, only_of, solid_of}
 use Rattle.kc_select.specs.Solid.{SelectionRule}
 use Rattle.kc_select.specs.SelectingPairs.{SelectsApart, SelectsInterleaved}
 use Rattle.kc_select.specs.declared.selection_counts.SelectionCounts.{SelectionCounts}
 use Rattle.kc_select.specs.declared.sides.Sides.{Sides}
 use Rattle.kc_tool.specs.PairSelections.{Selecting, SelectsPairsFrom, both, pairs_task}
 use Rattle.kc_tool.specs.Selections.{SelectsFrom}
-use Rattle.kc_tool.specs.Told.{counted_in, counted_of}
+use Rattle.kc_tool.specs.Told.{counted_of, told_of_totals}
 use Rattle.kc_command.specs.declared.option_name.OptionName.{OptionName}
 use Rattle.kc_tool.specs.declared.option_tips.Conflict.{Conflict}
 use Rattle.kc_tool.specs.declared.option_tips.Conflict.TheVariants.{Pairs, TooManyTables}
-use Rattle.kc_command.specs.declared.settings.Print.TheVariants as print
 use Rattle.kc_tool.specs.Faults.{combine_fault, table_fault}
 use Rattle.kc_tool.specs.FileEvents.{FileEvent}
 use Rattle.kc_tool.specs.Files.{AreOf, AreOpened, FileRead, FileWritten, LacksFile, LacksRoom, LacksSecond}
@@ -46,7 +48,8 @@ use Rattle.kc_tool.specs.Files.{files_named, given_back, openings, output2_of, o
 use Rattle.kc_tool.specs.Outputs.{ClosesBoth, ClosesOutput, LacksRoomForOutput, OpensBoth, OpensNoOutput}
 use Rattle.kc_tool.specs.Outputs.{OpensOutput, target}
 use Rattle.kc_tool.specs.declared.named_sources.NamedSource.{NamedSource}
-use Rattle.kc_tool.specs.Reports.{IsWritable, report_of, report_text}
+use Rattle.kc_tool.specs.Reports.{HasLines, numbers_text, report_of, report_text}
+use Rattle.kc_tool.specs.declared.table_reports.TableReport.TheVariants as lists
 use Rattle.kc_tally.specs.Tally.{TallySeen}
 use Rattle.kc_report.specs.declared.origin.Origin.{Origin}
 use Rattle.kc_tool.specs.Tallies.{Counts, Given, RefusesCount, TableSeen, given}
@@ -56,7 +59,7 @@ use Rattle.kc_tool.specs.declared.told.CountedWords.{CountedWords}
 use Rattle.kc_tool.specs.declared.told.Told.{Told}
 use Rattle.kc_tool.specs.declared.told.Told.TheVariants as says
 use Rattle.kc_tool.specs.declared.commands.Task.{Task}
-use Rattle.kc_tool.specs.declared.commands.Task.TheVariants.{Count, CountListed, Report, Query, Combine, CombineFiles}
+use Rattle.kc_tool.specs.declared.commands.Task.TheVariants.{Count, CountListed, Report, Query, Derive, DeriveFiles}
 use Rattle.kc_tool.specs.declared.commands.Task.TheVariants.{Select, SelectPairs}
 use Rattle.kc_tool.specs.declared.paired_sources.Pairing.{Pairing}
 use Rattle.kc_tool.specs.declared.commands.Verb.{Verb}
@@ -121,37 +124,37 @@ abbrev pub TellFirstFault : List Seen → List Seen → ToolFault → Type 0
 TellFirstFault old new fault = ((placed : PlacedFault) × HasFirstFault (λ seen. seen) most_table_bytes old new placed
     × (fault ≡ table_fault placed.place placed.fault)) ⊎ ((new ≡ old) × (fault ≡ Memory))
 
--- The effect of a combination: the sources gave tables, and the table text of their combination was written; or a table
--- has a fault, and nothing was written; or the tables have no combination, or its text was not written whole.
-abbrev pub Combines : Combining → List Seen → List Seen → Written → Written → Result Told ToolFault → Type 0
-Combines combining old new start now (Ok told) = (tables : List TableSeen)
-    × GiveTables most_table_bytes old new tables × FitsInto combining (total_of_all tables)
-    × ((totals : Totals) × CombinesTables combining tables start now totals × (told ≡ says.Counted (counted_in totals)))
-Combines combining old new start now (Err fault) = ((now ≡ start) × TellFirstFault old new fault)
+-- The effect of a derivation: the sources gave tables, and the text that is derived from these was written; or a table
+-- has a fault, and nothing was written; or no text is derived from the tables, or it was not written whole.
+abbrev pub Derives : Derived → List Seen → List Seen → Written → Written → Result Told ToolFault → Type 0
+Derives derived old new start now (Ok told) = (tables : List TableSeen)
+    × GiveTables most_table_bytes old new tables
+    × ((totals : Option Totals) × DerivesTables derived tables start now totals × (told ≡ told_of_totals totals))
+Derives derived old new start now (Err fault) = ((now ≡ start) × TellFirstFault old new fault)
     ⊎ ((tables : List TableSeen) × GiveTables most_table_bytes old new tables × ((why : CombineFault PlacedFault)
-    × CombinesNoTables combining tables start now why × (fault ≡ combine_fault why)))
+    × DerivesNoTables derived tables start now why × (fault ≡ combine_fault why)))
 
--- The effect of a combination in two passes, over these sources of the first pass, before and after it, and these of
--- the second one. The first sources gave tables that can be combined; then the second ones gave tables, and the table
--- text of their combination was written, or why it was not. Or the first ones did not, and nothing else was read or
--- written.
-abbrev pub CombinesInPasses : Combining → List Seen → List Seen → List Seen → List Seen → Written → Written
+-- The effect of a derivation in two passes, over these sources of the first pass, before and after it, and these of
+-- the second one. The first sources gave tables that match; then the second ones gave tables, and the text that is
+-- derived from these was written, or why it was not. Or the first ones did not, and nothing else was read or written.
+abbrev pub DerivesInPasses : Derived → List Seen → List Seen → List Seen → List Seen → Written → Written
     → Result Told ToolFault → Type 0
-CombinesInPasses combining first first_after second second_after start now (Ok told) =
-    ((header : Header) × CanCombine (λ seen. seen) combining most_table_bytes first first_after header)
-    × ((totals : Totals) × CombinesTexts combining most_table_bytes second second_after start now totals
-    × (totals.total ≤ 2 ^ 62) × (told ≡ says.Counted (counted_in totals)))
-CombinesInPasses combining first first_after second second_after start now (Err fault) =
-    ((why : CombineFault PlacedFault) × JudgesNot (λ seen. seen) combining most_table_bytes first first_after why
+DerivesInPasses derived first first_after second second_after start now (Ok told) =
+    ((header : Header) × CanCombine (λ seen. seen) (combining_of derived) most_table_bytes first first_after header)
+    × ((totals : Option Totals) × DerivesTexts derived most_table_bytes second second_after start now totals
+    × (told ≡ told_of_totals totals))
+DerivesInPasses derived first first_after second second_after start now (Err fault) =
+    ((why : CombineFault PlacedFault)
+    × JudgesNot (λ seen. seen) (combining_of derived) most_table_bytes first first_after why
     × (second_after ≡ second) × (now ≡ start) × (fault ≡ combine_fault why))
-    ⊎ ((header : Header) × CanCombine (λ seen. seen) combining most_table_bytes first first_after header
+    ⊎ ((header : Header) × CanCombine (λ seen. seen) (combining_of derived) most_table_bytes first first_after header
     × ((why : CombineFault PlacedFault)
-    × CombinesNot (λ seen. seen) combining most_table_bytes second second_after start now why
+    × DerivesNoTexts derived most_table_bytes second second_after start now why
     × (fault ≡ combine_fault why)))
 
--- The effect of a combination of files that are opened twice: those of the first half are the sources of the first
+-- The effect of a derivation from files that are opened twice: those of the first half are the sources of the first
 -- pass, and the others those of the second one.
-pub record CombinesFiles (combining : Combining) (old new : List Seen) (start now : Written)
+pub record DerivesFiles (derived : Derived) (old new : List Seen) (start now : Written)
     (outcome : Result Told ToolFault) : Type 0 where
   pub first : List Seen
   pub second : List Seen
@@ -161,7 +164,7 @@ pub record CombinesFiles (combining : Combining) (old new : List Seen) (start no
   pub are_after : new ≡ first_after ++ second_after
   pub halves : length first ≡ length second
   pub halves_after : length first_after ≡ length second_after
-  pub done : CombinesInPasses combining first first_after second second_after start now outcome
+  pub done : DerivesInPasses derived first first_after second second_after start now outcome
 
 -- the sources of a command: the files that were opened, or the given input if there are none
 abbrev pub sources_from : Seen → List Seen → List Seen
@@ -199,20 +202,31 @@ abbrev pub KeepsInput : List Seen → Seen → Seen → Type 0
 KeepsInput [] old new = ⊤
 KeepsInput (file ∷ files) old new = new ≡ old
 
--- a histogram, if that is the report, can be written
+-- a histogram or a spectrum, if that is written, has lines up to a count of 1 to 10,000,000
 abbrev pub HasWritableReport : Task → Type 0
-HasWritableReport (Report report) = IsWritable report
+HasWritableReport (Report report) = HasLines report
+HasWritableReport (Derive derived) = HasHigh derived
+HasWritableReport (DeriveFiles derived) = HasHigh derived
 HasWritableReport task = ⊤
 
+-- a text is derived from so many files, or from the given input if there are none: two are compared, and at most one is
+-- dumped
+abbrev pub HasTablesFor : Derived → ℕ → Type 0
+HasTablesFor (derive.Table combining) count = ⊤
+HasTablesFor (derive.Comparison solid) count = count ≡ 2
+HasTablesFor (derive.Spectrum high) count = count ≡ 2
+HasTablesFor (derive.Dump dump) count = count ≤ 1
+
 -- the task has its files: a count with a list has the list, a selection has its table, a report on a table has at most
--- one source, a combination of files has each file twice, and a selection of pairs has a table and two sources
+-- one source, a derivation has the tables that it takes, or each of their files twice, and a selection of pairs has a
+-- table and two sources
 abbrev pub HasFilesFor : {X : Type 0} → Task → List X → Type 0
 HasFilesFor (Count settings) files = ⊤
 HasFilesFor (CountListed settings) files = 1 ≤ length files
 HasFilesFor (Report report) files = length files ≤ 1
 HasFilesFor (Query words) files = length files ≤ 1
-HasFilesFor (Combine combining) files = ⊤
-HasFilesFor (CombineFiles combining) files = (half : ℕ) × (1 ≤ half) × (length files ≡ half + half)
+HasFilesFor (Derive derived) files = HasTablesFor derived (length files)
+HasFilesFor (DeriveFiles derived) files = (half : ℕ) × TakesTables derived half × (length files ≡ half + half)
 HasFilesFor (Select rule tells) files = 1 ≤ length files
 HasFilesFor (SelectPairs pairing) files = length files ≡ 3
 
@@ -223,8 +237,8 @@ IsTallyFor old new (Count settings) table = Counts old new settings table
 IsTallyFor old new (CountListed settings) table = Counts old new settings table
 IsTallyFor old new (Report report) table = TellOneTable old.sources new.sources table
 IsTallyFor old new (Query words) table = TellOneTable old.sources new.sources table
-IsTallyFor old new (Combine combining) table = ⊥
-IsTallyFor old new (CombineFiles combining) table = ⊥
+IsTallyFor old new (Derive derived) table = ⊥
+IsTallyFor old new (DeriveFiles derived) table = ⊥
 IsTallyFor old new (Select rule tells) table = ⊥
 IsTallyFor old new (SelectPairs pairing) table = ⊥
 
@@ -234,8 +248,8 @@ HasNoTallyFor old new (Count settings) fault = RefusesCount old new settings fau
 HasNoTallyFor old new (CountListed settings) fault = RefusesCount old new settings fault
 HasNoTallyFor old new (Report report) fault = TellNoTable old.sources new.sources fault
 HasNoTallyFor old new (Query words) fault = TellNoTable old.sources new.sources fault
-HasNoTallyFor old new (Combine combining) fault = ⊥
-HasNoTallyFor old new (CombineFiles combining) fault = ⊥
+HasNoTallyFor old new (Derive derived) fault = ⊥
+HasNoTallyFor old new (DeriveFiles derived) fault = ⊥
 HasNoTallyFor old new (Select rule tells) fault = ⊥
 HasNoTallyFor old new (SelectPairs pairing) fault = ⊥
 
@@ -243,11 +257,11 @@ HasNoTallyFor old new (SelectPairs pairing) fault = ⊥
 abbrev pub IsAnswer : Task → TableSeen → List ℕ → Type 0
 IsAnswer (Count settings) table text = text ≡ report_text (report_of settings) table
 IsAnswer (CountListed settings) table text = text ≡ report_text (report_of settings) table
-IsAnswer (Report report) table text = text ≡ report_text report table
+IsAnswer (Report report) table text = text ≡ numbers_text report table
 IsAnswer (Query words) table text = All (IsAskable table.0.k) (map string_bytes words.items)
     × (text ≡ query_text table.0 (map string_bytes words.items))
-IsAnswer (Combine combining) table text = ⊥
-IsAnswer (CombineFiles combining) table text = ⊥
+IsAnswer (Derive derived) table text = ⊥
+IsAnswer (DeriveFiles derived) table text = ⊥
 IsAnswer (Select rule tells) table text = ⊥
 IsAnswer (SelectPairs pairing) table text = ⊥
 
@@ -359,7 +373,7 @@ DoesByTally task old new (Err fault) = (new.output ≡ old.output) × HasFaultFo
 
 -- a task that takes its sources one after another
 abbrev pub TakesSources : Task → Type 0
-TakesSources (CombineFiles combining) = ⊥
+TakesSources (DeriveFiles derived) = ⊥
 TakesSources (SelectPairs pairing) = ⊥
 TakesSources task = ⊤
 
@@ -367,10 +381,10 @@ TakesSources task = ⊤
 abbrev pub Does : Task → Stage → Stage → Result Told ToolFault → Type 0
 Does (Select rule tells) old new outcome = SelectsBy rule tells old new outcome
 Does (SelectPairs pairing) old new outcome = SelectsPairsInto pairing old new outcome
-Does (Combine combining) old new outcome =
-    Combines combining old.given.sources new.given.sources old.output new.output outcome
-Does (CombineFiles combining) old new outcome =
-    CombinesFiles combining old.given.sources new.given.sources old.output new.output outcome
+Does (Derive derived) old new outcome =
+    Derives derived old.given.sources new.given.sources old.output new.output outcome
+Does (DeriveFiles derived) old new outcome =
+    DerivesFiles derived old.given.sources new.given.sources old.output new.output outcome
 Does task old new outcome = DoesByTally task old new outcome
 
 -- the name of a command
@@ -384,6 +398,7 @@ name_of verb.Merge = codes "merge"
 name_of verb.Intersect = codes "intersect"
 name_of verb.Subtract = codes "subtract"
 name_of verb.Filter = codes "filter"
+name_of verb.Compare = codes "compare"
 name_of verb.Select = codes "select"
 name_of verb.Profile = codes "profile"
 
@@ -398,27 +413,42 @@ verb_named name = if bytes_eq name (name_of verb.Count) then Some verb.Count
     else if bytes_eq name (name_of verb.Intersect) then Some verb.Intersect
     else if bytes_eq name (name_of verb.Subtract) then Some verb.Subtract
     else if bytes_eq name (name_of verb.Filter) then Some verb.Filter
+    else if bytes_eq name (name_of verb.Compare) then Some verb.Compare
     else if bytes_eq name (name_of verb.Select) then Some verb.Select
     else if bytes_eq name (name_of verb.Profile) then Some verb.Profile
     else None
+
+-- a command with these options asks for what is derived from its tables
+abbrev pub AsksForText : Verb → List Row → Derived → Type 0
+AsksForText verb.Dump rows (derive.Dump dump) = AsksForDump rows dump
+AsksForText verb.Merge rows (derive.Table asked) = asked ≡ combination.Merge
+AsksForText verb.Intersect rows (derive.Table asked) = AsksForIntersection rows asked
+AsksForText verb.Subtract rows (derive.Table asked) = AsksForSubtraction rows asked
+AsksForText verb.Filter rows (derive.Table asked) = AsksForFilter rows asked
+AsksForText verb.Compare rows (derive.Comparison solid) = AsksForMatrix rows None × (solid_of rows ≡ Some solid)
+AsksForText verb.Compare rows (derive.Spectrum high) = AsksForMatrix rows (Some high)
+AsksForText command rows derived = ⊥
 
 -- a command with these options asks for this task
 abbrev pub AsksForTask : Verb → List Row → Task → Type 0
 AsksForTask verb.Count rows (Count settings) = AsksFor rows settings × (only_of rows ≡ None)
 AsksForTask verb.Count rows (CountListed settings) =
     AsksFor rows settings × ((name : Text) × (only_of rows ≡ Some name))
-AsksForTask verb.Dump rows (Report report) = (report.print ≡ print.Dump) × AsksForDump rows report.dump
-AsksForTask verb.Histo rows (Report report) = (report.print ≡ print.Histo) × (high_of rows ≡ Some report.high)
-AsksForTask verb.Stats rows (Report report) = report.print ≡ print.Stats
+AsksForTask verb.Dump rows (Derive derived) = AsksForText verb.Dump rows derived
+AsksForTask verb.Dump rows (DeriveFiles derived) = AsksForText verb.Dump rows derived
+AsksForTask verb.Histo rows (Report (lists.Histogram high)) = high_of rows ≡ Some high
+AsksForTask verb.Stats rows (Report lists.Statistics) = ⊤
 AsksForTask verb.Query rows (Query words) = map string_bytes words.items ≡ words_asked rows
-AsksForTask verb.Merge rows (Combine asked) = asked ≡ combination.Merge
-AsksForTask verb.Merge rows (CombineFiles asked) = asked ≡ combination.Merge
-AsksForTask verb.Intersect rows (Combine asked) = AsksForIntersection rows asked
-AsksForTask verb.Intersect rows (CombineFiles asked) = AsksForIntersection rows asked
-AsksForTask verb.Subtract rows (Combine asked) = AsksForSubtraction rows asked
-AsksForTask verb.Subtract rows (CombineFiles asked) = AsksForSubtraction rows asked
-AsksForTask verb.Filter rows (Combine asked) = AsksForFilter rows asked
-AsksForTask verb.Filter rows (CombineFiles asked) = AsksForFilter rows asked
+AsksForTask verb.Merge rows (Derive derived) = AsksForText verb.Merge rows derived
+AsksForTask verb.Merge rows (DeriveFiles derived) = AsksForText verb.Merge rows derived
+AsksForTask verb.Intersect rows (Derive derived) = AsksForText verb.Intersect rows derived
+AsksForTask verb.Intersect rows (DeriveFiles derived) = AsksForText verb.Intersect rows derived
+AsksForTask verb.Subtract rows (Derive derived) = AsksForText verb.Subtract rows derived
+AsksForTask verb.Subtract rows (DeriveFiles derived) = AsksForText verb.Subtract rows derived
+AsksForTask verb.Filter rows (Derive derived) = AsksForText verb.Filter rows derived
+AsksForTask verb.Filter rows (DeriveFiles derived) = AsksForText verb.Filter rows derived
+AsksForTask verb.Compare rows (Derive derived) = AsksForText verb.Compare rows derived
+AsksForTask verb.Compare rows (DeriveFiles derived) = AsksForText verb.Compare rows derived
 AsksForTask verb.Select rows (Select rule tells) =
     AsksForSelection rows rule × IsFlag rows (codes "stats") tells × AsksForPairs rows None
 AsksForTask verb.Select rows (SelectPairs pairing) = AsksForSelection rows pairing.selection
@@ -433,6 +463,7 @@ first_refused verb.Dump rows = first_bad_of_dump rows
 first_refused verb.Histo rows = first_bad_of_histo rows
 first_refused verb.Intersect rows = first_bad_of_intersect rows
 first_refused verb.Filter rows = first_bad_of_dump rows
+first_refused verb.Compare rows = first_bad_of_compare rows
 first_refused verb.Select rows = first_bad_of_select rows
 first_refused verb.Profile rows = first_bad_of_profile rows
 first_refused verb rows = None
@@ -462,8 +493,13 @@ behind_list (Some list) names = list ∷ names
 abbrev pub behind_table : List Row → List Text
 behind_table rows = unwrap_or (first_of (codes "table") rows) [] ∷ files_named rows
 
+-- the two tables of a comparison; `clap` allows no missing table, which would have an empty name
+abbrev pub compared_tables : List Row → List Text
+compared_tables rows = unwrap_or (first_table_of rows) [] ∷ unwrap_or (first_of (codes "second") rows) [] ∷ []
+
 -- the files that a command reads, in order: for a count, its list and all files; for a selection and a profile, their
--- table and all files; for a sum, an intersection and a difference, all tables; for any other, the first file
+-- table and all files; for a sum, an intersection, a difference and a comparison, all tables; for any other, the first
+-- file
 abbrev pub files_of : Verb → List Row → List Text
 files_of verb.Count rows = behind_list (only_of rows) (files_named rows)
 files_of verb.Select rows = behind_table rows
@@ -471,30 +507,33 @@ files_of verb.Profile rows = behind_table rows
 files_of verb.Merge rows = tables_of rows
 files_of verb.Intersect rows = tables_of rows
 files_of verb.Subtract rows = tables_of rows
+files_of verb.Compare rows = compared_tables rows
 files_of verb rows = take 1 (files_named rows)
 
--- the files that a task opens, of those of its command: a combination of files opens all of them, and then all again
+-- the files that a task opens, of those of its command: a derivation from files opens all of them, and then all again
 abbrev pub opened_by : Task → List Text → List Text
-opened_by (CombineFiles combining) names = names ++ names
+opened_by (DeriveFiles derived) names = names ++ names
 opened_by task names = names
 
 -- a task that opens each of its files once
 abbrev pub OpensOnce : Task → Type 0
-OpensOnce (CombineFiles combining) = ⊥
+OpensOnce (DeriveFiles derived) = ⊥
 OpensOnce task = ⊤
 
--- a command that combines tables
-abbrev pub IsCombination : Verb → Type 0
-IsCombination verb.Merge = ⊤
-IsCombination verb.Intersect = ⊤
-IsCombination verb.Subtract = ⊤
-IsCombination verb.Filter = ⊤
-IsCombination command = ⊥
+-- a command that writes what is derived from tables
+abbrev pub IsDerivation : Verb → Type 0
+IsDerivation verb.Dump = ⊤
+IsDerivation verb.Merge = ⊤
+IsDerivation verb.Intersect = ⊤
+IsDerivation verb.Subtract = ⊤
+IsDerivation verb.Filter = ⊤
+IsDerivation verb.Compare = ⊤
+IsDerivation command = ⊥
 
 -- these are the files that a command opens
 abbrev pub AreFilesOf : Verb → List Row → List Text → Type 0
 AreFilesOf command rows names = (names ≡ files_of command rows)
-    ⊎ (IsCombination command × (names ≡ files_of command rows ++ files_of command rows))
+    ⊎ (IsDerivation command × (names ≡ files_of command rows ++ files_of command rows))
 
 -- the second output of a command; only a selection can have one
 abbrev pub second_of : Verb → List Row → Option Text

@@ -2,7 +2,7 @@
 use Rattle.std.specs.Prelude.{ℕ, List, [], ◌∷◌, ◌++◌, codes, decimal, string_bytes}
 use Rattle.kc_fastx.specs.declared.FastxFault.{FastxFault}
 use Rattle.kc_fastx.specs.declared.FastxFault.TheVariants as fastx
-use Rattle.kc_command.specs.OptionName.{option_text}
+use Rattle.kc_command.specs.Options.{option_name}
 use Rattle.kc_tool.specs.declared.tool_faults.ToolFault.{ToolFault}
 use Rattle.kc_tool.specs.declared.tool_faults.ToolFault.TheVariants.{
   Fastx,
@@ -63,7 +63,7 @@ fault_front BadEnd = codes "43: bad end"
 fault_front TableTooLong = codes "44: table too long"
 fault_front TableRead = codes "45: table read failed"
 fault_front Memory = codes "46: no memory"
-fault_front (BadOption name) = codes "51: bad option " ++ option_text name
+fault_front (BadOption name) = codes "51: bad option --" ++ option_name name
 fault_front (BadWord number) = codes "52: bad word " ++ decimal number
 fault_front Write = codes "53: write failed"
 fault_front (Run fault) = run_text fault

@@ -14,7 +14,8 @@ use Rattle.kc_command.specs.Settings.{Settings, rule_of}
 use Rattle.kc_tool.specs.Reports.{IsReportOf}
 use Rattle.kc_tool.specs.Tallies.{ReadsSources, TableSeen, given}
 use Rattle.kc_combine.specs.declared.combining.Combining.TheVariants as combination
-use Rattle.kc_tool.specs.Commands.{Combines, CombinesFiles, most_table_bytes}
+use Rattle.kc_combine.specs.declared.derived.Derived.TheVariants as derive
+use Rattle.kc_tool.specs.Commands.{Derives, DerivesFiles, most_table_bytes}
 use Rattle.kc_tool.specs.declared.told.Told.{Told}
 
 -- read as a table, the text has the tally of these reads under the rule, and its origin: their number, the floor of the
@@ -83,7 +84,8 @@ ApartIsTogether settings = (inputs more : List (List ℕ)) (first second merged 
 -- the command `merge` writes the sum of the tables in the texts that its two files gave
 abbrev pub MergeWritesMerged : Type 0
 MergeWritesMerged = (first second first_after second_after : Seen) (start now : Written) (told : Told)
-    → Combines combination.Merge (first ∷ second ∷ []) (first_after ∷ second_after ∷ []) start now (Ok told)
+    → Derives (derive.Table combination.Merge) (first ∷ second ∷ []) (first_after ∷ second_after ∷ []) start now
+    (Ok told)
     → (one other text : List ℕ) × TakesAll first first_after most_table_bytes one
     × TakesAll second second_after most_table_bytes other × AreMerged one other text × HasWritten start now text
 
@@ -91,7 +93,7 @@ MergeWritesMerged = (first second first_after second_after : Seen) (start now : 
 abbrev pub MergeWritesMergedFiles : Type 0
 MergeWritesMergedFiles = (one other first second one_after other_after first_after second_after : Seen)
     (start now : Written) (told : Told)
-    → CombinesFiles combination.Merge (one ∷ other ∷ first ∷ second ∷ [])
+    → DerivesFiles (derive.Table combination.Merge) (one ∷ other ∷ first ∷ second ∷ [])
     (one_after ∷ other_after ∷ first_after ∷ second_after ∷ []) start now (Ok told)
     → (text more merged : List ℕ) × TakesAll first first_after most_table_bytes text
     × TakesAll second second_after most_table_bytes more × AreMerged text more merged × HasWritten start now merged

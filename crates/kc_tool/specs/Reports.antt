@@ -13,6 +13,8 @@ use Rattle.kc_report.specs.Table.{table_text}
 use Rattle.kc_tool.specs.declared.tool_faults.ToolFault.{ToolFault}
 use Rattle.kc_tool.specs.declared.tool_faults.ToolFault.TheVariants.{Memory, Write}
 use Rattle.kc_tool.specs.declared.reports.Report.{Report}
+use Rattle.kc_tool.specs.declared.table_reports.TableReport.{TableReport}
+use Rattle.kc_tool.specs.declared.table_reports.TableReport.TheVariants as lists
 use Rattle.kc_tool.specs.declared.told.CountedWords.{CountedWords}
 use Rattle.kc_tool.specs.Told.{counted_of}
 use Rattle.kc_command.specs.declared.settings.Print.{Print}
@@ -30,11 +32,20 @@ printed_text print.Stats dump high table = statistics_text table.0.rows
 abbrev pub report_text : Report → TableSeen → List ℕ
 report_text report table = printed_text report.print report.dump report.high table
 
--- a histogram and the statistics list no rows
-abbrev pub ListsNoRows : Print → Type 0
-ListsNoRows print.Histo = ⊤
-ListsNoRows print.Stats = ⊤
-ListsNoRows print = ⊥
+-- the text of a report on a table that lists none of its rows
+abbrev pub numbers_text : TableReport → TableSeen → List ℕ
+numbers_text (lists.Histogram high) table = histo_text high table.0.rows
+numbers_text lists.Statistics table = statistics_text table.0.rows
+
+-- the greatest count whose words are counted by themselves for it
+abbrev pub high_of : TableReport → ℕ
+high_of (lists.Histogram high) = high
+high_of lists.Statistics = 0
+
+-- the highest count with a line of its own in a histogram of a table is 1 to 10,000,000
+abbrev pub HasLines : TableReport → Type 0
+HasLines (lists.Histogram high) = (1 ≤ high) × (high ≤ 10000000)
+HasLines lists.Statistics = ⊤
 
 -- the highest count with a line of its own in a histogram is 1 to 10,000,000
 abbrev pub IsWritable : Report → Type 0

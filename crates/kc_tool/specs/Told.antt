@@ -20,6 +20,11 @@ counted_with reads tally = record { reads = reads; total = total_of tally.rows; 
 abbrev pub counted_in : Totals → CountedWords
 counted_in totals = record { reads = None; total = totals.total; distinct = totals.distinct }
 
+-- what there is to report of a text that was derived from tables: how much a table has, and nothing of another text
+abbrev pub told_of_totals : Option Totals → Told
+told_of_totals (Some totals) = Counted (counted_in totals)
+told_of_totals None = Nothing
+
 -- how many reads a table was counted from, if that is known
 abbrev pub reads_of : Option Origin → Option ℕ
 reads_of origin = option_map (λ origin. origin.reads) origin

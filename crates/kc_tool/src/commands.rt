@@ -9,7 +9,8 @@ ghost use Rattle.kc_io.specs.Sources.{Seen};
 ghost use Rattle.kc_select.specs.Pairs.{each};
 ghost use Rattle.kc_tool.specs.Commands.{
   AsksForTask,
-  Combines,
+  AsksForText,
+  Derives,
   Does,
   DoesApart,
   DoesByTally,
@@ -40,43 +41,42 @@ ghost use Rattle.kc_tool.specs.Commands.{
   verb_named,
 };
 ghost use Rattle.kc_tool.specs.Files.{HasNoOutput, HasNotBoth};
-ghost use Rattle.kc_tool.specs.Reports.{IsWritable};
+ghost use Rattle.kc_combine.specs.Derivations.{HasHigh, TakesTables};
+ghost use Rattle.kc_tool.specs.Reports.{HasLines};
 ghost use Rattle.kc_tool.specs.Tallies.{given};
 
 use crate::count_progress::{Progress, Stage};
 use crate::counted_sources::Means;
 use crate::files::{FileSource, NamedFiles, open_files, size_behind, take_sources};
 use crate::given_options::{
-    dump_options, filter_options, high_of, intersect_options, options, profile_options,
-    select_options,
+    compare_options, dump_options, filter_options, high_of, intersect_options, options,
+    profile_options, select_options,
 };
 use crate::given_sources::GivenSources;
 use crate::named_sources::NamedSource;
 use crate::outputs::{close_both, close_output, open_both, open_output};
 use crate::paired_sources::{Pairing, select_pairs};
 use crate::pairs_writers::{Apart, Interleaved};
-use crate::reports::{Crew, Report, report_given, write_numbers, write_report};
+use crate::reports::report_given;
 use crate::selected_sources::select_given;
-use crate::task_tallies::{asked_rows, numbers_of, report_listed, table_from, table_of, tables_of};
-use crate::told::{CountedWords, Told};
+use crate::table_reports::TableReport;
+use crate::task_tallies::{asked_rows, numbers_of, report_listed, table_from, tables_of};
+use crate::told::{CountedWords, Told, told_of_totals};
 use crate::tool_faults::{ToolFault, combine_fault};
-use crate::two_passes::combine_files;
+use crate::two_passes::derive_files;
 use clap::ArgMatches;
-use kc_combine::{Combining, combine_tables};
+use kc_combine::{Combining, Derived, derive_from_tables};
 use kc_command::command::{
-    COUNT, DUMP, FILTER, HISTO, INTERSECT, MERGE, PROFILE, QUERY, SELECT, STATS, SUBTRACT,
+    COMPARE, COUNT, DUMP, FILTER, HISTO, INTERSECT, MERGE, PROFILE, QUERY, SELECT, STATS, SUBTRACT,
 };
-use kc_command::{Options, Print, SelectOptions, has_flag, subtract_options, text_of};
+use kc_command::{Options, SelectOptions, has_flag, subtract_options, text_of};
 use kc_io::{Sink, Source};
-use kc_report::{Dump, query};
+use kc_report::query;
 use kc_select::{Selection, SelectionCounts, Sides};
 use std::alloc::{AllocError, Global};
 use std::rt::Files;
 use std::sync::Wait;
 use std::thread::Threads;
-
-/// The greatest count with a line of its own, for a report that is no histogram and makes no use of it.
-const USUAL_HIGH: u64 = 10_000;
 
 /// The commands of `kcount`.
 #[derive(Clone, Copy, Debug, PartialEq, Eq)]
@@ -99,6 +99,8 @@ pub(crate) enum Verb {
     Subtract,
     /// Writes the words of a table whose counts are within bounds.
     Filter,
+    /// Compares a table of reads with one of an assembly.
+    Compare,
     /// Writes the reads that a table selects.
     Select,
     /// Writes the counts of the words along each read.
@@ -119,6 +121,7 @@ pub(crate) fn verb_named(name: &str) -> Option<Verb>
         INTERSECT => Some(Verb::Intersect),
         SUBTRACT => Some(Verb::Subtract),
         FILTER => Some(Verb::Filter),
+        COMPARE => Some(Verb::Compare),
         SELECT => Some(Verb::Select),
         PROFILE => Some(Verb::Profile),
         _ => None,
@@ -132,14 +135,14 @@ pub(crate) enum Task {
     Count(Options),
     /// Counts those words that occur in the reads of a list, which is the first file, and writes a report on them.
     CountListed(Options),
-    /// Reads a table, and writes a report on its tally.
-    Report(Report),
+    /// Reads a table, and writes a histogram or statistics of it.
+    Report(TableReport),
     /// Reads a table, and writes the counts of these words.
     Query(Vec<String>),
-    /// Reads tables, and writes the table of their combination.
-    Combine(Combining),
-    /// Reads tables from regular files, each of which is opened twice, and writes the table of their combination.
-    CombineFiles(Combining),
+    /// Reads tables, and writes what is derived from them.
+    Derive(Derived),
+    /// Reads tables from regular files, each of which is opened twice, and writes what is derived from them.
+    DeriveFiles(Derived),
     /// Reads a table, which is the first file, and writes the reads of the others that it selects, or their profiles;
     /// the flag is whether to print the numbers of the reads.
     Select(Selection, bool),
@@ -210,8 +213,8 @@ pub(crate) fn run_command<
     }
 }
 
-// What a command does with these options. Tables that are combined are read twice if all are regular files. Condition:
-// the options don't conflict.
+// What a command does with these options. Tables from which a text is derived are read twice if all are regular files.
+// Condition: the options don't conflict.
 fn plan_of<'a, S: Files>(
     alloc: Global,
     verb: Verb,
@@ -230,8 +233,8 @@ fn plan_of<'a, S: Files>(
     let task = task_of(alloc, verb, matches)?;
     let names = file_names(alloc, verb, matches)?;
     match task {
-        Task::Combine(combining) if files.are_regular(&names) => Ok(Plan {
-            task: Task::CombineFiles(combining),
+        Task::Derive(derived) if files.are_regular(&names) => Ok(Plan {
+            task: Task::DeriveFiles(derived),
             names: twice(alloc, &names)?,
         }),
         task => Ok(Plan { task, names }),
@@ -370,7 +373,7 @@ fn answer<H: Threads + Wait + Sync, R: Source, F: Source + Drop, W: Sink, P: Pro
     ensures names { names_of files.new.items ≡ names_of files.old.items }
 {
     match task {
-        Task::CombineFiles(combining) => combine_files(means, *combining, files, output),
+        Task::DeriveFiles(derived) => derive_files(means, *derived, files, output),
         Task::SelectPairs(pairing) => pair_by_table(means, pairing, files, output),
         _ => answer_of_sources(means, task, files, input, output),
     }
@@ -401,11 +404,11 @@ fn answer_of_sources<H: Threads + Wait + Sync, R: Source, F: Source, W: Sink, P:
         Task::CountListed(options) => count_listed(means, options, &mut sources, output),
         Task::Report(report) => report_table(means, *report, &mut sources, output),
         Task::Query(words) => query_table(means, words, &mut sources, output),
-        Task::Combine(combining) => write_combination(means, *combining, &mut sources, output),
+        Task::Derive(derived) => write_derived(means, *derived, &mut sources, output),
         Task::Select(selection, tells) => {
             select_by_table(means, *selection, *tells, &mut sources, output)
         }
-        Task::CombineFiles(_) | Task::SelectPairs(_) => unreachable!(),
+        Task::DeriveFiles(_) | Task::SelectPairs(_) => unreachable!(),
     }
 }
 
@@ -464,15 +467,16 @@ fn told_of_count(counted: Result<CountedWords, ToolFault>) -> Result<Told, ToolF
     }
 }
 
-// Reads the table of the only source, and writes a report on it. A histogram and statistics keep no rows.
-fn report_table<H: Threads + Sync, R: Source, F: Source, W: Sink, P: Progress>(
+// Reads the table of the only source, and writes a histogram or statistics of it. No rows are kept. Conditions: there
+// is one source, and the highest count of a histogram is 1 to 10,000,000.
+fn report_table<H: Threads, R: Source, F: Source, W: Sink, P: Progress>(
     means: &Means<'_, H, P>,
-    report: Report,
+    report: TableReport,
     sources: &mut GivenSources<'_, '_, '_, R, F>,
     output: &mut W,
 ) -> Result<Told, ToolFault>
     requires one { length (seen_in R.seen F.seen sources.old) ≡ 1 }
-    requires writable { IsWritable report }
+    requires writable { HasLines report }
     ensures done { DoesByTally (Task.Report report)
         (record { given = given None (seen_in R.seen F.seen sources.old); output = W.seen output.old })
         (record { given = given None (seen_in R.seen F.seen sources.new); output = W.seen output.new })
@@ -480,19 +484,9 @@ fn report_table<H: Threads + Sync, R: Source, F: Source, W: Sink, P: Progress>(
     ensures kept { Keeps R.seen F.seen sources.old sources.new }
 {
     means.progress.begins(Stage::Tables);
-    if report.lists_no_rows() {
-        let numbers = numbers_of(means.alloc, sources, report.high)?;
-        means.progress.begins(Stage::Text);
-        write_numbers(output, &numbers, report)?;
-        return Ok(Told::Nothing);
-    }
-    let (tally, origin) = table_of(means.alloc, sources)?;
+    let numbers = numbers_of(means.alloc, sources, report.high())?;
     means.progress.begins(Stage::Text);
-    let crew = Crew {
-        rt: means.rt,
-        threads: 1,
-    };
-    write_report(&crew, means.alloc, output, &tally, origin, report)?;
+    report.write(&numbers, output)?;
     Ok(Told::Nothing)
 }
 
@@ -517,22 +511,25 @@ fn query_table<H: Threads, R: Source, F: Source, W: Sink, P: Progress>(
     Ok(Told::Nothing)
 }
 
-// Reads the tables of the sources, and writes the table of their combination.
-fn write_combination<H: Threads, R: Source, F: Source, W: Sink, P: Progress>(
+// Reads the tables of the sources, and writes what is derived from them. Conditions: there are as many sources as are
+// needed, and the highest count of a spectrum is 1 to 10,000,000.
+fn write_derived<H: Threads, R: Source, F: Source, W: Sink, P: Progress>(
     means: &Means<'_, H, P>,
-    combining: Combining,
+    derived: Derived,
     sources: &mut GivenSources<'_, '_, '_, R, F>,
     output: &mut W,
 ) -> Result<Told, ToolFault>
-    ensures done { Combines combining (seen_in R.seen F.seen sources.old) (seen_in R.seen F.seen sources.new)
+    requires count { TakesTables derived (length (seen_in R.seen F.seen sources.old)) }
+    requires high { HasHigh derived }
+    ensures done { Derives derived (seen_in R.seen F.seen sources.old) (seen_in R.seen F.seen sources.new)
         (W.seen output.old) (W.seen output.new) result }
     ensures kept { Keeps R.seen F.seen sources.old sources.new }
 {
     means.progress.begins(Stage::Tables);
     let tables = tables_of(means.alloc, sources)?;
     means.progress.begins(Stage::Text);
-    match combine_tables(means.alloc, combining, &tables, output) {
-        Ok(totals) => Ok(Told::Counted(CountedWords::of_totals(totals))),
+    match derive_from_tables(means.alloc, derived, &tables, output) {
+        Ok(totals) => Ok(told_of_totals(totals)),
         Err(fault) => Err(combine_fault(fault)),
     }
 }
@@ -621,31 +618,34 @@ fn task_of(alloc: Global, verb: Verb, matches: &ArgMatches<'_>) -> Result<Task, 
                 Some(_) => Ok(Task::CountListed(options)),
             }
         }
-        Verb::Dump => Ok(Task::Report(Report {
-            print: Print::Dump,
-            dump: dump_options(matches)?,
-            high: USUAL_HIGH,
-        })),
-        Verb::Histo => Ok(Task::Report(Report {
-            print: Print::Histo,
-            dump: Dump::in_lines(),
-            high: high_of(matches)?,
-        })),
-        Verb::Stats => Ok(Task::Report(Report {
-            print: Print::Stats,
-            dump: Dump::in_lines(),
-            high: USUAL_HIGH,
-        })),
+        Verb::Dump => Ok(Task::Derive(Derived::Dump(dump_options(matches)?))),
+        Verb::Histo => Ok(Task::Report(TableReport::Histogram(high_of(matches)?))),
+        Verb::Stats => Ok(Task::Report(TableReport::Statistics)),
         Verb::Query => {
             let words = texts_of(alloc, matches, "word")?;
             Ok(Task::Query(owned_texts(alloc, &words)?))
         }
-        Verb::Merge => Ok(Task::Combine(Combining::Merge)),
-        Verb::Intersect => Ok(Task::Combine(intersect_options(matches)?)),
-        Verb::Subtract => Ok(Task::Combine(subtract_options(matches))),
-        Verb::Filter => Ok(Task::Combine(filter_options(matches)?)),
+        Verb::Merge => Ok(Task::Derive(Derived::Table(Combining::Merge))),
+        Verb::Intersect => Ok(Task::Derive(Derived::Table(intersect_options(matches)?))),
+        Verb::Subtract => Ok(Task::Derive(Derived::Table(subtract_options(matches)))),
+        Verb::Filter => Ok(Task::Derive(Derived::Table(filter_options(matches)?))),
+        Verb::Compare => Ok(Task::Derive(compared(matches)?)),
         Verb::Select => selection_task(matches),
         Verb::Profile => Ok(Task::Select(profile_options(matches)?, false)),
+    }
+}
+
+// What a comparison with these options derives from its tables.
+fn compared(matches: &ArgMatches<'_>) -> Result<Derived, ToolFault>
+    ensures asked { IfOk result (AsksForText Verb.Compare (rows_of (found_of matches.now))) }
+    ensures high { IfOk result HasHigh }
+    ensures lawful { IfOk result (λ derived. first_refused Verb.Compare (rows_of (found_of matches.now)) ≡ None) }
+    ensures refused { IfErr result (IsRefusedOption Verb.Compare (rows_of (found_of matches.now))) }
+{
+    let asked = compare_options(matches)?;
+    match asked.spectrum {
+        None => Ok(Derived::Comparison(asked.solid)),
+        Some(high) => Ok(Derived::Spectrum(high)),
     }
 }
 
@@ -670,8 +670,8 @@ fn selection_task(matches: &ArgMatches<'_>) -> Result<Task, ToolFault>
 }
 
 // The names of the files that a command reads: for a count, its list and all files; for a selection and a profile,
-// their table and all files; for a sum, an intersection and a difference, all tables; and for any other command, the
-// first file.
+// their table and all files; for a sum, an intersection, a difference and a comparison, all tables; and for any other
+// command, the first file.
 fn file_names<'a>(
     alloc: Global,
     verb: Verb,
@@ -695,6 +695,10 @@ fn file_names<'a>(
         Verb::Merge | Verb::Intersect | Verb::Subtract => {
             let others = texts_of(alloc, matches, "second")?;
             names_with_first(alloc, text_of(matches, "first").unwrap_or(""), &others)
+        }
+        Verb::Compare => {
+            let assembly = text_of(matches, "second").unwrap_or("");
+            names_with_first(alloc, text_of(matches, "first").unwrap_or(""), &[assembly])
         }
         _ => {
             let mut names = texts_of(alloc, matches, "file")?;

@@ -3,7 +3,6 @@ use crate::commands::Verb;
 use crate::file_kinds::{FileKind, kind_of};
 use crate::file_refusals::Refusal;
 use crate::looks::{Look, Looks};
-use crate::option_ranges::range_of;
 use crate::tool_faults::ToolFault;
 use clap::ArgMatches;
 use itoa::Buffer;
@@ -124,7 +123,7 @@ fn source_name<'m>(source: u64, matches: &ArgMatches<'m>) -> &'m str {
 // The name of the table that a fault is about: of several, the one that was read last.
 fn table_name<'m>(known: &Known<'_, 'm>) -> &'m str {
     match known.verb {
-        Verb::Merge | Verb::Intersect | Verb::Subtract => last_table_name(known),
+        Verb::Merge | Verb::Intersect | Verb::Subtract | Verb::Compare => last_table_name(known),
         Verb::Select | Verb::Profile => file_argument("table", known.matches),
         _ => file_name(1, known.matches),
     }
@@ -305,16 +304,15 @@ fn explain_option(
     name: OptionName,
     known: &Known<'_, '_>,
 ) -> Result<String, AllocError> {
-    let option = name.text();
-    let id = option.strip_prefix("--").unwrap_or("");
-    let mut text = String::from_str(alloc, option)?;
-    match text_of(known.matches, id) {
+    let mut text = String::from_str(alloc, "--")?;
+    text.push_str(name.name())?;
+    match text_of(known.matches, name.name()) {
         Some(value) => {
             text.push_str(" is ")?;
             text.push_str(value)?;
-            line(alloc, text.as_str(), ", and has to be ", range_of(name))
+            line(alloc, text.as_str(), ", and has to be ", name.range())
         }
-        None => line(alloc, text.as_str(), " has to be given: ", range_of(name)),
+        None => line(alloc, text.as_str(), " has to be given: ", name.range()),
     }
 }
 

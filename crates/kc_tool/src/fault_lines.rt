@@ -76,8 +76,8 @@ fn push_front(line: &mut Block, fault: &ToolFault)
         ToolFault::TableRead => line.push(b"45: table read failed"),
         ToolFault::Memory => line.push(b"46: no memory"),
         ToolFault::BadOption(name) => {
-            line.push(b"51: bad option ");
-            line.push(name.text().as_bytes());
+            line.push(b"51: bad option --");
+            line.push(name.name().as_bytes());
         }
         ToolFault::BadWord(number) => push_numbered(line, b"52: bad word ", *number),
         ToolFault::Write => line.push(b"53: write failed"),

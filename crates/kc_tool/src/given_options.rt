@@ -1,8 +1,9 @@
 //! What the options of a command line ask for; an option that is refused is a fault of the program.
-ghost use Rattle.std.specs.Prelude.{MatchResult, IfOk, Some, None, ◌≡◌, ◌≤◌, ◌^◌};
+ghost use Rattle.std.specs.Prelude.{MatchResult, IfOk, IfSome, Some, None, ◌≡◌, ◌≤◌, ◌^◌};
 ghost use Rattle.clap.specs.Words.{found_of, rows_of};
 ghost use Rattle.kc_command.specs.Arguments.{
   AsksFor,
+  AsksForComparison,
   AsksForDump,
   AsksForFilter,
   AsksForIntersection,
@@ -10,19 +11,20 @@ ghost use Rattle.kc_command.specs.Arguments.{
   AsksForProfile,
   AsksForSelection,
   first_bad,
+  first_bad_of_compare,
   first_bad_of_dump,
   first_bad_of_histo,
   first_bad_of_intersect,
   first_bad_of_profile,
   first_bad_of_select,
-  high_of,
 };
+ghost use Rattle.kc_command.specs.Options.{high_of};
 ghost use Rattle.kc_command.specs.declared.option_name.OptionName.{OptionName};
 
 use crate::tool_faults::ToolFault;
 use clap::ArgMatches;
 use kc_combine::Combining;
-use kc_command::{Options, SelectOptions};
+use kc_command::{CompareOptions, Options, SelectOptions};
 use kc_report::Dump;
 use kc_select::Selection;
 use std::alloc::Global;
@@ -122,4 +124,19 @@ pub(crate) fn filter_options(matches: &ArgMatches<'_>) -> Result<Combining, Tool
     ensures asked { IfOk result (AsksForFilter (rows_of (found_of matches.now))) }
 {
     Ok(kc_command::filter_options(matches)?)
+}
+
+/// What the options of `compare` ask for. It takes no memory.
+///
+/// # Errors
+/// `BadOption` with the first of `--solid` and `--high` with a value outside its limits, even if the option has no
+/// effect.
+pub(crate) fn compare_options(matches: &ArgMatches<'_>) -> Result<CompareOptions, ToolFault>
+    ensures first_bad { MatchResult result (λ c. first_bad_of_compare (rows_of (found_of matches.now)) ≡ None)
+        (λ fault. (name : OptionName) × (first_bad_of_compare (rows_of (found_of matches.now)) ≡ Some name)
+        × (fault ≡ ToolFault.BadOption name)) }
+    ensures asked { IfOk result (AsksForComparison (rows_of (found_of matches.now))) }
+    ensures limits { IfOk result (λ asked. IfSome asked.spectrum (λ high. (1 ≤ high) × (high ≤ 10000000))) }
+{
+    Ok(kc_command::compare_options(matches)?)
 }

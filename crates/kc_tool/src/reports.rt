@@ -1,13 +1,12 @@
 //! Reports on a tally: which one is written, and from sources of reads to the report on their tally.
-ghost use Rattle.std.specs.Prelude.{◌≡◌, ◌≢◌, ◌↔◌, IsTrue, OnOk, IfErr, IfOk, IfSome, IsErrOf, map, option_map};
+ghost use Rattle.std.specs.Prelude.{◌≡◌, ◌≢◌, OnOk, IfErr, IfOk, IfSome, IsErrOf, map, option_map};
 ghost use Rattle.kc_tool.specs.GivenSources.{Keeps, seen_in};
 ghost use Rattle.kc_tool.specs.Commands.{sources_from};
 ghost use Rattle.kc_tool.specs.NamedSources.{names_of, seen_of};
 ghost use Rattle.kc_tool.specs.Reports.{BeginsReport, IsWritable, LeavesUnwritten, WritesReport, WritesText, done_of};
 ghost use Rattle.kc_tool.specs.Told.{reads_of};
-ghost use Rattle.kc_report.specs.Numbers.{IsCountOf};
-ghost use Rattle.kc_tool.specs.Reports.{ListsNoRows, ReportsSources, report_of, report_text};
-ghost use Rattle.kc_tool.specs.Tallies.{GivesListOf, IsListUnder, ListFailsIn, TableSeen, given, words_of};
+ghost use Rattle.kc_tool.specs.Reports.{ReportsSources, report_of, report_text};
+ghost use Rattle.kc_tool.specs.Tallies.{GivesListOf, IsListUnder, ListFailsIn, given, words_of};
 ghost use Rattle.kc_report.specs.Table.{MaySay};
 ghost use Rattle.kc_command.specs.Settings.{rule_of};
 
@@ -22,8 +21,7 @@ use kc_command::{Options, Print};
 use kc_gather::Numbers;
 use kc_io::{FromBytes, Sink, Source};
 use kc_report::{
-    Dump, Origin, TableNumbers, write_dump_in_parallel, write_histo, write_stats, write_stats_of,
-    write_table_in_parallel,
+    Dump, Origin, write_dump_in_parallel, write_histo, write_stats, write_table_in_parallel,
 };
 use kc_tally::Tally;
 use kc_word::Only;
@@ -43,18 +41,6 @@ pub(crate) struct Report {
     pub dump: Dump,
     /// The greatest count with a line of its own in a histogram.
     pub high: u64,
-}
-
-impl Report {
-    /// Whether it is a histogram or statistics, which list no rows.
-    pub(crate) fn lists_no_rows(self) -> bool
-        ensures { IsTrue result ↔ ListsNoRows self.print }
-    {
-        match self.print {
-            Print::Histo | Print::Stats => true,
-            Print::Table | Print::Dump => false,
-        }
-    }
 }
 
 /// The threads that make the text of a report, started by the runtime.
@@ -311,26 +297,6 @@ pub(crate) fn write_report<H: Threads + Sync, W: Sink>(
         Print::Dump => write_dump_in_parallel(rt, alloc, threads, writer, tally, &report.dump)?,
         Print::Histo => write_histo(alloc, writer, tally, report.high)?,
         Print::Stats => write_stats(writer, tally)?,
-    }
-    Ok(())
-}
-
-/// Writes a report on a table with these numbers. Condition: it is a histogram or statistics.
-///
-/// # Errors
-/// `Write` if the writer failed or took no byte; a beginning of the text was written.
-pub(crate) fn write_numbers<W: Sink>(
-    writer: &mut W,
-    numbers: &TableNumbers,
-    report: Report,
-) -> Result<(), ToolFault>
-    requires { ListsNoRows report.print }
-    ensures { (table : TableSeen) → IsCountOf report.high table.0.rows numbers.now
-        → WritesText (report_text report table) (W.seen writer.old) (W.seen writer.new) result }
-{
-    match report.print {
-        Print::Histo => numbers.write_histo(writer)?,
-        _ => write_stats_of(writer, numbers.statistics())?,
     }
     Ok(())
 }

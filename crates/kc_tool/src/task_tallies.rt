@@ -10,7 +10,6 @@ ghost use Rattle.kc_tool.specs.Commands.{
   TellCountsOf,
   TellFirstFault,
   TellNoTable,
-  TellOneTable,
   TellOneTableOf,
   TellsNoTable,
   most_table_bytes,
@@ -88,24 +87,6 @@ pub(crate) fn tables_of<R: Source, F: Source>(
         tables.push_reserved(LoadedTable { tally, origin });
     }
     Ok(tables)
-}
-
-/// The table of the only source. Condition: there is one source.
-///
-/// # Errors
-/// The fault of the table.
-pub(crate) fn table_of<R: Source, F: Source>(
-    alloc: Global,
-    sources: &mut GivenSources<'_, '_, '_, R, F>,
-) -> Result<(Tally, Option<Origin>), ToolFault>
-    requires { length (seen_in R.seen F.seen sources.old) ≡ 1 }
-    ensures table { let Tells = TellOneTable (seen_in R.seen F.seen sources.old) in
-        IfOk result (λ table. Tells (seen_in R.seen F.seen sources.new) (table.0, table.1)) }
-    ensures origin { IfOk result (λ table. MaySay table.1) }
-    ensures fault { IfErr result (TellNoTable (seen_in R.seen F.seen sources.old) (seen_in R.seen F.seen sources.new)) }
-    ensures kept { Keeps R.seen F.seen sources.old sources.new }
-{
-    sources.read(0, &TableReader { alloc, place: 1 }, &mut ())
 }
 
 /// The numbers of the table of the only source, with a place for each count up to this one. No rows are kept.

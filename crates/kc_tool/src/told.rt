@@ -1,6 +1,6 @@
 //! What a command that succeeded reports.
 ghost use Rattle.std.specs.Prelude.{◌≡◌};
-ghost use Rattle.kc_tool.specs.Told.{asked_counts, counted_in, counted_with};
+ghost use Rattle.kc_tool.specs.Told.{asked_counts, counted_in, counted_with, told_of_totals};
 
 use kc_combine::Totals;
 use kc_select::SelectionCounts;
@@ -51,6 +51,16 @@ impl CountedWords {
             total: totals.total,
             distinct: totals.distinct,
         }
+    }
+}
+
+/// What there is to report of a text that was derived from tables: how much a table has, and nothing of another text.
+pub(crate) fn told_of_totals(totals: Option<Totals>) -> Told
+    ensures { result ≡ told_of_totals totals }
+{
+    match totals {
+        Some(totals) => Told::Counted(CountedWords::of_totals(totals)),
+        None => Told::Nothing,
     }
 }
 

@@ -1,8 +1,9 @@
-//! Tables in regular files, which are combined in two passes: the first one judges them, and the second one writes. No
-//! rows are kept.
+//! Tables in regular files, from which a text is derived in two passes: the first one judges them, and the second one
+//! writes. No rows are kept.
 ghost use Rattle.std.specs.Prelude.{◌≡◌, ◌+◌, ◌≤◌, ◌++◌, ◌∷◌, [], ℕ, IfOk, length, map, take};
 ghost use Rattle.std.specs.Vec.{vec_capacity};
-ghost use Rattle.kc_tool.specs.Commands.{CombinesFiles, CombinesInPasses};
+ghost use Rattle.kc_combine.specs.Derivations.{HasHigh, TakesTables};
+ghost use Rattle.kc_tool.specs.Commands.{DerivesFiles, DerivesInPasses};
 ghost use Rattle.kc_tool.specs.NamedSources.{names_of, seen_of};
 ghost use Rattle.kc_tool.specs.TwoPasses.{PutsInHalf};
 
@@ -10,15 +11,15 @@ use crate::count_progress::{Progress, Stage};
 use crate::counted_sources::Means;
 use crate::named_sources::NamedSource;
 use crate::task_tallies::MAX_TABLE_BYTES;
-use crate::told::{CountedWords, Told};
+use crate::told::{Told, told_of_totals};
 use crate::tool_faults::{ToolFault, combine_fault};
-use kc_combine::{Combining, combine_texts, judge_texts};
+use kc_combine::{Derived, derive_from_texts, judge_texts};
 use kc_io::{Sink, Source};
 use std::alloc::{AllocError, Global};
 use std::mem;
 use std::thread::Threads;
 
-/// The files of a combination in two passes, taken apart.
+/// The files of two passes, taken apart.
 #[derive(Drop)]
 struct Passes<'n, F: Source + Drop> {
     // The names of all files, in order.
@@ -29,28 +30,29 @@ struct Passes<'n, F: Source + Drop> {
 }
 
 /// Reads the tables of the first half of the files to their ends. Then it reads those of the others, which are the same
-/// files opened again, side by side, and writes the table of their combination. The files keep their names. Condition:
-/// each file is opened twice.
+/// files opened again, and writes what is derived from them. The files keep their names. Conditions: each file is
+/// opened twice, there are as many tables as are needed, and the highest count of a spectrum is 1 to 10,000,000.
 ///
 /// # Errors
-/// Those of `judge_texts`: nothing of the second half was read, and nothing was written. Those of `combine_texts`.
-pub(crate) fn combine_files<H: Threads, F: Source + Drop, W: Sink, P: Progress>(
+/// Those of `judge_texts`: nothing of the second half was read, and nothing was written. Those of `derive_from_texts`.
+pub(crate) fn derive_files<H: Threads, F: Source + Drop, W: Sink, P: Progress>(
     means: &Means<'_, H, P>,
-    combining: Combining,
+    derived: Derived,
     files: &mut Vec<NamedSource<'_, F>>,
     output: &mut W,
 ) -> Result<Told, ToolFault>
-    requires { (half : ℕ) × (1 ≤ half) × (length files.old.items ≡ half + half) }
-    ensures done { CombinesFiles combining (seen_of F.seen files.old.items) (seen_of F.seen files.new.items)
+    requires twice { (half : ℕ) × TakesTables derived half × (length files.old.items ≡ half + half) }
+    requires high { HasHigh derived }
+    ensures done { DerivesFiles derived (seen_of F.seen files.old.items) (seen_of F.seen files.new.items)
         (W.seen output.old) (W.seen output.new) result }
     ensures names { names_of files.new.items ≡ names_of files.old.items }
 {
     let room = Passes::with_room(means.alloc, files.len())?;
     let place = Vec::with_capacity(means.alloc, files.len())?;
     let mut passes = room.with_files(mem::replace(files, place));
-    let combined = passes.combine(means, combining, output);
+    let told = passes.derive(means, derived, output);
     passes.put_back(files);
-    combined
+    told
 }
 
 impl<'n, F: Source + Drop> Passes<'n, F> {
@@ -107,35 +109,32 @@ impl<'n, F: Source + Drop> Passes<'n, F> {
         }
     }
 
-    // Judges the tables of the first sources, and combines those of the second ones.
-    fn combine<H: Threads, W: Sink, P: Progress>(
+    // Judges the tables of the first sources, and writes what is derived from those of the second ones.
+    fn derive<H: Threads, W: Sink, P: Progress>(
         &mut self,
         means: &Means<'_, H, P>,
-        combining: Combining,
+        derived: Derived,
         output: &mut W,
     ) -> Result<Told, ToolFault>
         requires first { 1 ≤ length self.old.first.items }
-        requires second { 1 ≤ length self.old.second.items }
-        ensures done { CombinesInPasses combining (map F.seen self.old.first.items) (map F.seen self.new.first.items)
+        requires second { TakesTables derived (length self.old.second.items) }
+        requires high { HasHigh derived }
+        ensures done { DerivesInPasses derived (map F.seen self.old.first.items) (map F.seen self.new.first.items)
             (map F.seen self.old.second.items) (map F.seen self.new.second.items)
             (W.seen output.old) (W.seen output.new) result }
         ensures names { self.new.names ≡ self.old.names }
         ensures long { length self.new.first.items ≡ length self.old.first.items }
         ensures long_second { length self.new.second.items ≡ length self.old.second.items }
     {
+        let alloc = means.alloc;
         means.progress.begins(Stage::Tables);
-        if let Err(fault) = judge_texts(means.alloc, combining, &mut self.first, MAX_TABLE_BYTES) {
+        let judged = judge_texts(alloc, derived.combining(), &mut self.first, MAX_TABLE_BYTES);
+        if let Err(fault) = judged {
             return Err(combine_fault(fault));
         }
         means.progress.begins(Stage::Text);
-        match combine_texts(
-            means.alloc,
-            combining,
-            &mut self.second,
-            MAX_TABLE_BYTES,
-            output,
-        ) {
-            Ok(totals) => Ok(Told::Counted(CountedWords::of_totals(totals))),
+        match derive_from_texts(alloc, derived, &mut self.second, MAX_TABLE_BYTES, output) {
+            Ok(totals) => Ok(told_of_totals(totals)),
             Err(fault) => Err(combine_fault(fault)),
         }
     }

@@ -1,7 +1,8 @@
 use Rattle.std.proofs.Common.{◌∙◌, sym, arith}
 use Rattle.std.proofs.lemmas.List.{length-set}
-use Rattle.kc_combine.proofs.AheadsLemmas.{fails_at, whences_stay, rise_all, rise_more, taken_all, taken_more}
+use Rattle.kc_combine.proofs.AheadsLemmas.{counted_all, counted_more, fails_at, heads_long, whences_stay, rise_all, rise_more, taken_all, taken_more}
 use Rattle.std.proofs.lemmas.Result.{err_from_is_err_and}
+use Rattle.kc_combine.specs.Aheads.{heads_of}
 use Rattle.kc_combine.proofs.aheads.take_word.Goals as goal
 
 pub tables-preserved : goal.tables-preserved
@@ -12,6 +13,8 @@ tables-preserved g c =
           taken_more g.R.GivesRows.gave g.R.GivesRows.gave_all c.args.word c.tables.i c.tables.aheads befores so_far.0 c.tables.counts
           c.index-aheads-i.result c.take.new.self c.in_ok-counts.field-0 so_far.1 (omega (arith, c.tables-test.true, s.long)) s.alike
           c.in_ok-counts.ensures.taken;
+      counted = counted_more c.args.word c.tables.i (heads_of c.args.aheads.now) c.tables.aheads c.tables.counts c.index-aheads-i.result
+          c.take.new.self c.in_ok-counts.field-0 s.counted (omega (arith, c.tables-test.true, s.long)) s.alike c.in_ok-counts.ensures.count;
       rise = λ begin.
           rise_more c.args.word c.tables.i c.tables.aheads c.index-aheads-i.result c.take.new.self (s.rise begin)
           (omega (arith, c.tables-test.true, s.long)) c.in_ok-counts.ensures.rises;
@@ -20,6 +23,12 @@ tables-preserved g c =
       long = length-set c.tables.aheads c.tables.i c.take.new.self ∙ s.long;
       alike = length-set c.tables.counts c.tables.i c.in_ok-counts.field-0 ∙ s.alike ∙ sym (length-set c.tables.aheads c.tables.i c.take.new.self);
     }
+
+pub returns-clause-counts : goal.returns-clause-counts
+returns-clause-counts g c = let s = c.tables.invariant in
+    counted_all c.args.word c.tables.i (heads_of c.args.aheads.now) (heads_of c.tables.aheads) c.tables.counts s.counted
+    (let long = heads_long c.tables.aheads in omega (arith, c.tables-test.false, s.long, long))
+    (s.alike ∙ sym (heads_long c.tables.aheads))
 
 pub returns-clause-rise : goal.returns-clause-rise
 returns-clause-rise g c = λ begin. let s = c.tables.invariant in

@@ -1,7 +1,8 @@
 use Rattle.std.proofs.Common.{◌∙◌, ap, sym, subst}
 use Rattle.std.proofs.lemmas.Result.{IfOk-weaker}
 use Rattle.clap.specs.Words.{App}
-use Rattle.kc_command.specs.Command.{dump_shape, with_short}
+use Rattle.kc_command.specs.Command.{dump_shape}
+use Rattle.kc_command.specs.Options.{with_short}
 use Rattle.kc_command.proofs.CommandLemmas.{HaveRules, all_added}
 use Rattle.kc_command.proofs.command.dump_command.Goals as goal
 
@@ -10,23 +11,23 @@ returns c =
     let have : HaveRules c.in_ok-arguments.arguments.items dump_shape.rules =
     subst (λ arguments. HaveRules arguments dump_shape.rules) (sym c.in_ok-arguments.ensures.items)
     ((
-      c.with_short.ensures.own ∙ c.column.ensures.own,
-      c.with_short.ensures.rule ∙ ap (with_short 99) c.column.ensures.rule,
+      c.with_short.ensures.own ∙ c.arg.ensures.own,
+      c.with_short.ensures.rule ∙ ap (with_short 99) c.arg.ensures.rule,
       (
-        c.with_short-2.ensures.own ∙ c.tab.ensures.own,
-        c.with_short-2.ensures.rule ∙ ap (with_short 116) c.tab.ensures.rule,
+        c.with_short-2.ensures.own ∙ c.arg-2.ensures.own,
+        c.with_short-2.ensures.rule ∙ ap (with_short 116) c.arg-2.ensures.rule,
         (
-          c.with_short-3.ensures.own ∙ c.lower_count.ensures.own,
-          c.with_short-3.ensures.rule ∙ ap (with_short 76) c.lower_count.ensures.rule,
+          c.with_short-3.ensures.own ∙ c.arg-3.ensures.own,
+          c.with_short-3.ensures.rule ∙ ap (with_short 76) c.arg-3.ensures.rule,
           (
-            c.with_short-4.ensures.own ∙ c.upper_count.ensures.own,
-            c.with_short-4.ensures.rule ∙ ap (with_short 85) c.upper_count.ensures.rule,
+            c.with_short-4.ensures.own ∙ c.arg-4.ensures.own,
+            c.with_short-4.ensures.rule ∙ ap (with_short 85) c.arg-4.ensures.rule,
             (
               c.output.ensures.own,
               c.output.ensures.rule,
               (
-                c.explain.ensures.own,
-                c.explain.ensures.rule,
+                c.arg-5.ensures.own,
+                c.arg-5.ensures.rule,
                 (
                   c.file.ensures.own,
                   c.file.ensures.rule,

@@ -1,7 +1,8 @@
 use Rattle.std.proofs.Common.{◌∙◌, ap, sym, subst}
 use Rattle.std.proofs.lemmas.Result.{IfOk-weaker}
 use Rattle.clap.specs.Words.{App}
-use Rattle.kc_command.specs.Command.{filter_shape, with_short}
+use Rattle.kc_command.specs.Command.{filter_shape}
+use Rattle.kc_command.specs.Options.{with_short}
 use Rattle.kc_command.proofs.CommandLemmas.{HaveRules, all_added}
 use Rattle.kc_command.proofs.command.filter_command.Goals as goal
 
@@ -10,17 +11,17 @@ returns c =
     let have : HaveRules c.in_ok-arguments.arguments.items filter_shape.rules =
     subst (λ arguments. HaveRules arguments filter_shape.rules) (sym c.in_ok-arguments.ensures.items)
     ((
-      c.with_short.ensures.own ∙ c.lower_count.ensures.own,
-      c.with_short.ensures.rule ∙ ap (with_short 76) c.lower_count.ensures.rule,
+      c.with_short.ensures.own ∙ c.arg.ensures.own,
+      c.with_short.ensures.rule ∙ ap (with_short 76) c.arg.ensures.rule,
       (
-        c.with_short-2.ensures.own ∙ c.upper_count.ensures.own,
-        c.with_short-2.ensures.rule ∙ ap (with_short 85) c.upper_count.ensures.rule,
+        c.with_short-2.ensures.own ∙ c.arg-2.ensures.own,
+        c.with_short-2.ensures.rule ∙ ap (with_short 85) c.arg-2.ensures.rule,
         (
           c.output.ensures.own,
           c.output.ensures.rule,
           (
-            c.explain.ensures.own,
-            c.explain.ensures.rule,
+            c.arg-3.ensures.own,
+            c.arg-3.ensures.rule,
             (
               c.file.ensures.own,
               c.file.ensures.rule,

@@ -10,14 +10,14 @@ returns c =
     let have : HaveRules c.in_ok-arguments.arguments.items profile_shape.rules =
     subst (λ arguments. HaveRules arguments profile_shape.rules) (sym c.in_ok-arguments.ensures.items)
     ((
-      c.min_qual_char.ensures.own,
-      c.min_qual_char.ensures.rule,
+      c.arg.ensures.own,
+      c.arg.ensures.rule,
       (
         c.output.ensures.own,
         c.output.ensures.rule,
         (
-          c.explain.ensures.own,
-          c.explain.ensures.rule,
+          c.arg-2.ensures.own,
+          c.arg-2.ensures.rule,
           (
             c.counted_table.ensures.own,
             c.counted_table.ensures.rule,

@@ -13,8 +13,8 @@ returns c =
       c.output.ensures.own,
       c.output.ensures.rule,
       (
-        c.explain.ensures.own,
-        c.explain.ensures.rule,
+        c.arg.ensures.own,
+        c.arg.ensures.rule,
         (
           c.table.ensures.own,
           c.table.ensures.rule,

@@ -10,38 +10,38 @@ returns c =
     let have : HaveRules c.in_ok-arguments.arguments.items select_shape.rules =
     subst (λ arguments. HaveRules arguments select_shape.rules) (sym c.in_ok-arguments.ensures.items)
     ((
-      c.min_count.ensures.own,
-      c.min_count.ensures.rule,
+      c.arg.ensures.own,
+      c.arg.ensures.rule,
       (
-        c.max_count.ensures.own,
-        c.max_count.ensures.rule,
+        c.arg-2.ensures.own,
+        c.arg-2.ensures.rule,
         (
-          c.min_share.ensures.own,
-          c.min_share.ensures.rule,
+          c.arg-3.ensures.own,
+          c.arg-3.ensures.rule,
           (
-            c.min_qual_char.ensures.own,
-            c.min_qual_char.ensures.rule,
+            c.arg-4.ensures.own,
+            c.arg-4.ensures.rule,
             (
-              c.invert.ensures.own,
-              c.invert.ensures.rule,
+              c.arg-5.ensures.own,
+              c.arg-5.ensures.rule,
               (
-                c.pairs.ensures.own,
-                c.pairs.ensures.rule,
+                c.arg-6.ensures.own,
+                c.arg-6.ensures.rule,
                 (
-                  c.keep.ensures.own,
-                  c.keep.ensures.rule,
+                  c.arg-7.ensures.own,
+                  c.arg-7.ensures.rule,
                   (
-                    c.stats.ensures.own,
-                    c.stats.ensures.rule,
+                    c.arg-8.ensures.own,
+                    c.arg-8.ensures.rule,
                     (
                       c.output.ensures.own,
                       c.output.ensures.rule,
                       (
-                        c.output2.ensures.own,
-                        c.output2.ensures.rule,
+                        c.arg-9.ensures.own,
+                        c.arg-9.ensures.rule,
                         (
-                          c.explain.ensures.own,
-                          c.explain.ensures.rule,
+                          c.arg-10.ensures.own,
+                          c.arg-10.ensures.rule,
                           (
                             c.counted_table.ensures.own,
                             c.counted_table.ensures.rule,

@@ -10,14 +10,14 @@ returns c =
     let have : HaveRules c.in_ok-arguments.arguments.items subtract_shape.rules =
     subst (λ arguments. HaveRules arguments subtract_shape.rules) (sym c.in_ok-arguments.ensures.items)
     ((
-      c.counts.ensures.own,
-      c.counts.ensures.rule,
+      c.arg.ensures.own,
+      c.arg.ensures.rule,
       (
         c.output.ensures.own,
         c.output.ensures.rule,
         (
-          c.explain.ensures.own,
-          c.explain.ensures.rule,
+          c.arg-2.ensures.own,
+          c.arg-2.ensures.rule,
           (
             c.first.ensures.own,
             c.first.ensures.rule,

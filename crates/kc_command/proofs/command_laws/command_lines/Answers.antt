@@ -1,6 +1,6 @@
 use Rattle.std.proofs.Common.{refl}
 use Rattle.clap.proofs.OnLiterals.{clap_on_literals}
-use Rattle.kc_command.specs.Laws.{CountsBothStrands, CountsFiles, CountsListedWords, FiltersTables, IntersectsTables, MergesTables, ProfilesRecords, ReadsTables, Refuses, SelectsPairs, SelectsReads, SubtractsTables}
+use Rattle.kc_command.specs.Laws.{ComparesTables, CountsBothStrands, CountsFiles, CountsListedWords, FiltersTables, IntersectsTables, MergesTables, ProfilesRecords, ReadsTables, Refuses, SelectsPairs, SelectsReads, SubtractsTables}
 use Rattle.kc_command.proofs.command_laws.command_lines.Goals as goal
 
 counts_both_strands : CountsBothStrands
@@ -145,6 +145,33 @@ filters_tables = record {
   option_of_dump = refl;
 }
 
+compares_tables : ComparesTables
+unfolding clap_on_literals
+compares_tables = record {
+  taken = refl;
+  command = refl;
+  good = refl;
+  solid = refl;
+  matrix = refl;
+  high = refl;
+  tables = refl;
+  alone = refl;
+  usual_solid = refl;
+  usual_high = refl;
+  no_matrix = refl;
+  output = refl;
+  least_solid = refl;
+  greatest_solid = refl;
+  above = refl;
+  high_without_matrix = refl;
+  first_of_two = refl;
+  with_value = refl;
+  no_table = refl;
+  one_table = refl;
+  third_table = refl;
+  option_of_select = refl;
+}
+
 selects_reads : SelectsReads
 unfolding clap_on_literals
 selects_reads = record {
@@ -250,6 +277,9 @@ returns-clause-subtracts c = subtracts_tables
 
 pub returns-clause-filters : goal.returns-clause-filters
 returns-clause-filters c = filters_tables
+
+pub returns-clause-compares : goal.returns-clause-compares
+returns-clause-compares c = compares_tables
 
 pub returns-clause-refuses : goal.returns-clause-refuses
 returns-clause-refuses c = refuses

@@ -8,7 +8,7 @@ returns-in-Some-clause-asked c =
     rw c.in-Count.is (c.in_ok-options-in-Count.ensures.asked, (_, named))
 
 pub returns-in-Stats-clause-asked : goal.returns-in-Stats-clause-asked
-returns-in-Stats-clause-asked c = rw c.in-Stats.is refl
+returns-in-Stats-clause-asked c = rw c.in-Stats.is tt
 
 pub returns-in_ok-profile_options-in-Profile-clause-asked : goal.returns-in_ok-profile_options-in-Profile-clause-asked
 returns-in_ok-profile_options-in-Profile-clause-asked c =

@@ -1,0 +1,43 @@
+use Rattle.std.proofs.Common.{ap, sym, subst}
+use Rattle.std.proofs.lemmas.Result.{IfOk-weaker}
+use Rattle.clap.specs.Words.{App}
+use Rattle.kc_command.specs.Command.{compare_shape}
+use Rattle.kc_command.proofs.CommandLemmas.{HaveRules, all_added}
+use Rattle.kc_command.proofs.command.compare_command.Goals as goal
+
+pub returns : goal.returns
+returns c =
+    let have : HaveRules c.in_ok-arguments.arguments.items compare_shape.rules =
+    subst (λ arguments. HaveRules arguments compare_shape.rules) (sym c.in_ok-arguments.ensures.items)
+    ((
+      c.arg.ensures.own,
+      c.arg.ensures.rule,
+      (
+        c.arg-2.ensures.own,
+        c.arg-2.ensures.rule,
+        (
+          c.arg-3.ensures.own,
+          c.arg-3.ensures.rule,
+          (
+            c.output.ensures.own,
+            c.output.ensures.rule,
+            (
+              c.arg-4.ensures.own,
+              c.arg-4.ensures.rule,
+              (
+                c.reads.ensures.own,
+                c.reads.ensures.rule,
+                (
+                  c.assembly.ensures.own,
+                  c.assembly.ensures.rule,
+                  tt,
+                ),
+              ),
+            ),
+          ),
+        ),
+      ),
+    )
+    ) in
+    IfOk-weaker c.args-2.result _ _
+    (λ command adds. ap (λ (a : App). a.top) (all_added c.command_with_help.result command _ c.in_ok-arguments.arguments.items compare_shape.rules adds have c.command_with_help.ensures)) c.args-2.ensures
