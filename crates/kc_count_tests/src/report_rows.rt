@@ -6,8 +6,8 @@ use crate::merged_tables::text_of;
 use kc_io::{FromBytes, ToVec};
 use kc_kmer::K;
 use kc_report::{
-    Dump, MAX_HIGH, Origin, ReportFault, TableReading, query, read_numbers, read_table, write_dump,
-    write_histo, write_stats, write_stats_of,
+    Dump, MAX_HIGH, Origin, ReportFault, TableReading, query, read_numbers, read_table, read_words,
+    write_dump, write_histo, write_stats, write_stats_of,
 };
 use kc_tally::{Row, Statistics, Tally};
 use std::alloc::{AllocError, Global};
@@ -438,6 +438,35 @@ fn headers_that_begin_no_rows(rt: HostRuntime) {
         assert_header_refused(&rt, &TABLE[..count], 100, ReportFault::BadHeader);
     }
     assert_header_refused(&rt, b"KCT 3 3 s\n", 9, ReportFault::TableTooLong);
+}
+
+// Lists of words, and these.
+const LISTS: &[(&[u8], &[&str])] = &[
+    (b"", &[]),
+    (b"\n\r\n\n", &[]),
+    (b"ACG\ngta\n", &["ACG", "gta"]),
+    (b"ACG\r\n\r\n\nGTA\r", &["ACG", "GTA"]),
+    (b"ACG", &["ACG"]),
+    (b" A C\n\r\r\nT\n", &[" A C", "\r", "T"]),
+    (b"A\xffC\n", &["A\u{fffd}C"]),
+];
+
+#[test]
+fn lists_of_words(rt: HostRuntime) -> Result<(), Fail> {
+    let alloc = rt.alloc();
+    for (list, want) in LISTS {
+        let mut words = strings_of(alloc, &["TTT"])?;
+        let outcome = read_words(alloc, &mut FromBytes::new(*list), 100, &mut words);
+        assert_same(&rt, "an outcome", &outcome, &Ok(()));
+        assert_eq!(rt; words.len(), want.len() + 1);
+        for (i, word) in want.iter().enumerate() {
+            assert_items(&rt, "a word", words[i + 1].as_bytes(), word.as_bytes());
+        }
+    }
+    let mut words = Vec::new(alloc);
+    let outcome = read_words(alloc, &mut FromBytes::new(b"ACG\n"), 3, &mut words);
+    assert_same(&rt, "an outcome", &outcome, &Err(ReportFault::TableTooLong));
+    Ok(())
 }
 
 // These words, as a query takes them.

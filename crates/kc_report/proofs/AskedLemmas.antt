@@ -2,10 +2,10 @@
 use Rattle.std.proofs.Common.{◌≡◌, ℕ, suc, ◌+◌, ◌^◌, ◌<◌, ◌≤◌, Bool, true, false, cond, eqb, ⊎_elim, List, [], ◌∷◌, ◌++◌}
 use Rattle.std.proofs.Common.{length, get_or, take, map, refl, sym, ◌∙◌, ap, subst, arith, append-nil, eq-eqb, eqb-true, ne_eqb}
 use Rattle.std.specs.Prelude.{◌==◌, ◌||◌, All, Result, Ok, Err, decimal}
-use Rattle.std.specs.List.{Contains, filter, list_any}
+use Rattle.std.specs.List.{Contains, filter}
 use Rattle.std.specs.List.Sorted.{IsNonDecreasing, IsPermutation, IsStrictlyIncreasing}
 use Rattle.std.proofs.lemmas.Bool.{cases_Bool, cases_lt}
-use Rattle.std.proofs.lemmas.List.{get_or-map, get_or-take, get_or_default, get_or_push, get_or_append_left, length-append, length-map, length-take-le, length_push, map_push, take_all}
+use Rattle.std.proofs.lemmas.List.{get_or-take, get_or_default, get_or_push, get_or_append_left, length-take-le, length_push, map_push, take_all}
 use Rattle.std.proofs.lemmas.List.Elements.{All-cons, All-filter, All-push, All-weaker, filter-append}
 use Rattle.std.proofs.lemmas.List.Folds.{list_any_at, list_any_none}
 use Rattle.std.proofs.lemmas.List.Kept.{IsStrictlyIncreasing-filter}

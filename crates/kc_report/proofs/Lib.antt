@@ -18,6 +18,7 @@ pub mod TableReadingLemmas
 pub mod RowByRowLemmas
 pub mod QueryLemmas
 pub mod AskedLemmas
+pub mod WordListLemmas
 pub mod HistoLemmas
 pub mod NumbersLemmas
 pub mod MergingLemmas

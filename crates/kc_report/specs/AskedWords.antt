@@ -4,9 +4,8 @@ use Rattle.std.specs.List.{Contains, list_any}
 use Rattle.kc_io.specs.Sources.{Seen}
 use Rattle.kc_kmer.specs.Word.{number, form}
 use Rattle.kc_tally.specs.Tally.{TallySeen, count_of}
-use Rattle.kc_tally.specs.declared.row.Row.{Row}
 use Rattle.kc_report.specs.declared.origin.Origin.{Origin}
-use Rattle.kc_report.specs.Querying.{IsAskable, asked_form, in_upper_case}
+use Rattle.kc_report.specs.Querying.{IsAskable, in_upper_case}
 use Rattle.kc_report.specs.TableReading.{GivesTable}
 
 pub record WordsAsked : Type 0 where

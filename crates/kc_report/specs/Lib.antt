@@ -11,6 +11,7 @@ pub mod RowsWritten
 pub mod DumpedText
 pub mod Querying
 pub mod AskedWords
+pub mod WordList
 pub mod Histo
 pub mod Statistics
 pub mod Numbers

@@ -5,9 +5,9 @@
 //! `Tally`. `write_table` writes the table text, from which `read_table` makes the same tally again, and `query` the
 //! counts of asked words; `table_laws` has laws of table texts. `TableReading` gives the rows of a table text one by
 //! one, and keeps none of them; `read_numbers` keeps what a histogram and the statistics need of them, and `read_asked`
-//! those of asked words; `write_dump_of_text` writes the dump of a table text while it is read. A table text that is
-//! read may be gzip. `merge` adds two tables, and `merging_laws` has a law of that. The `Block` of `kc_io` gathers the
-//! bytes of a text, so that the writer gets blocks of 64 KB.
+//! those of asked words, which `read_words` takes from a list; `write_dump_of_text` writes the dump of a table text
+//! while it is read. A text that is read may be gzip. `merge` adds two tables, and `merging_laws` has a law of that.
+//! The `Block` of `kc_io` gathers the bytes of a text, so that the writer gets blocks of 64 KB.
 //!
 //! `write_dump_in_parallel` and `write_table_in_parallel` write the same texts with several threads. Each thread makes
 //! the text of pieces of 8,192 rows, and the writer gets the text of one piece at a time.
@@ -44,6 +44,7 @@ mod table_reading;
 mod table_rows;
 mod table_sum;
 mod table_writing;
+mod word_list;
 
 pub use dump::{Dump, MAX_COUNT, write_dump, write_dump_in_parallel};
 pub use dumped_text::write_dump_of_text;
@@ -60,3 +61,4 @@ pub use table_reader::read_table;
 pub use table_reading::TableReading;
 pub use table_sum::{join_origins, merge, origins_match};
 pub use table_writing::TableWriting;
+pub use word_list::read_words;

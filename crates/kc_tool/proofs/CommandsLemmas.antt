@@ -29,12 +29,12 @@ use Rattle.kc_tool.specs.declared.told.Told.{Told}
 use Rattle.kc_tool.specs.declared.told.Told.TheVariants as says
 use Rattle.kc_tool.specs.Commands.{Answers, Does, HasFilesFor, IsTallyFor, behind_list, given_of, sources_in}
 use Rattle.kc_tool.specs.Commands.{AreFilesOf, AsksForTask, DoesApart, DoesTaskApart, DoesTaskInto, EndsSo, GoTogether, IsRefused, IsRefusedOption, KeepsInput, LacksOutput, LacksSecondFile, WritesTwo, behind_table, second_of}
-use Rattle.kc_tool.specs.Commands.{AsksForText, DerivesFiles, HasTablesFor, OpensOnce, Surroundings, files_of, sources_from, first_refused, opened_by, stage_after, stage_before}
+use Rattle.kc_tool.specs.Commands.{named_table, AsksForText, DerivesFiles, HasTablesFor, OpensOnce, Surroundings, files_of, sources_from, first_refused, opened_by, stage_after, stage_before}
 use Rattle.kc_tool.specs.declared.named_sources.NamedSource.{NamedSource}
 use Rattle.kc_tool.specs.declared.tool_faults.ToolFault.{ToolFault}
 use Rattle.kc_tool.specs.declared.tool_faults.ToolFault.TheVariants.{Fastx, BadHeader, BadRow, BadEnd, TableTooLong, TableRead, Memory, BadOption, BadWord, Write, Run, OpenFailed, Unlike, TooLarge, BrokenTable, ShortTable, Unpaired}
 use Rattle.kc_tool.specs.declared.commands.Task.{Task}
-use Rattle.kc_tool.specs.declared.commands.Task.TheVariants.{Count, CountListed, Report, Query, Derive, DeriveFiles, Select, SelectPairs}
+use Rattle.kc_tool.specs.declared.commands.Task.TheVariants.{Count, CountListed, Report, Query, QueryListed, Derive, DeriveFiles, Select, SelectPairs}
 use Rattle.kc_tool.specs.declared.commands.Verb.{Verb}
 use Rattle.kc_tool.specs.declared.commands.Verb.TheVariants as verb
 use Rattle.kc_tool.specs.Reports.{ReportsOn, report_of, report_text}
@@ -153,6 +153,7 @@ module _ (rows : List Row) where
       has_list asks.1.0 (files_named rows) names (are ∙ ap (λ only. behind_list only (files_named rows)) asks.1.1)
   has_files verb.Count (Report report) names together asks are once = absurd asks
   has_files verb.Count (Query words) names together asks are once = absurd asks
+  has_files verb.Count (QueryListed words) names together asks are once = absurd asks
   has_files verb.Count (Derive derived) names together asks are once = absurd asks
   has_files verb.Count (DeriveFiles derived) names together asks are once = absurd asks
   has_files verb.Count (Select rule tells) names together asks are once = absurd asks
@@ -161,6 +162,7 @@ module _ (rows : List Row) where
   has_files verb.Dump (CountListed settings) names together asks are once = absurd asks
   has_files verb.Dump (Report report) names together asks are once = absurd asks
   has_files verb.Dump (Query words) names together asks are once = absurd asks
+  has_files verb.Dump (QueryListed words) names together asks are once = absurd asks
   has_files verb.Dump (Derive derived) names together asks are once = text_files verb.Dump derived names asks are
   has_files verb.Dump (DeriveFiles derived) names together asks are once = absurd once
   has_files verb.Dump (Select rule tells) names together asks are once = absurd asks
@@ -169,6 +171,7 @@ module _ (rows : List Row) where
   has_files verb.Histo (CountListed settings) names together asks are once = absurd asks
   has_files verb.Histo (Report report) names together asks are once = one_of names (files_named rows) are
   has_files verb.Histo (Query words) names together asks are once = absurd asks
+  has_files verb.Histo (QueryListed words) names together asks are once = absurd asks
   has_files verb.Histo (Derive derived) names together asks are once = absurd asks
   has_files verb.Histo (DeriveFiles derived) names together asks are once = absurd asks
   has_files verb.Histo (Select rule tells) names together asks are once = absurd asks
@@ -177,6 +180,7 @@ module _ (rows : List Row) where
   has_files verb.Stats (CountListed settings) names together asks are once = absurd asks
   has_files verb.Stats (Report report) names together asks are once = one_of names (files_named rows) are
   has_files verb.Stats (Query words) names together asks are once = absurd asks
+  has_files verb.Stats (QueryListed words) names together asks are once = absurd asks
   has_files verb.Stats (Derive derived) names together asks are once = absurd asks
   has_files verb.Stats (DeriveFiles derived) names together asks are once = absurd asks
   has_files verb.Stats (Select rule tells) names together asks are once = absurd asks
@@ -184,7 +188,10 @@ module _ (rows : List Row) where
   has_files verb.Query (Count settings) names together asks are once = absurd asks
   has_files verb.Query (CountListed settings) names together asks are once = absurd asks
   has_files verb.Query (Report report) names together asks are once = absurd asks
-  has_files verb.Query (Query words) names together asks are once = one_of names (files_named rows) are
+  has_files verb.Query (Query words) names together asks are once =
+      let one = ap length are ∙ ap (λ list. length (behind_list list (named_table rows ∷ []))) asks.1 in omega (arith, one)
+  has_files verb.Query (QueryListed words) names together asks are once =
+      ap length are ∙ ap (λ list. length (behind_list list (named_table rows ∷ []))) asks.1.1
   has_files verb.Query (Derive derived) names together asks are once = absurd asks
   has_files verb.Query (DeriveFiles derived) names together asks are once = absurd asks
   has_files verb.Query (Select rule tells) names together asks are once = absurd asks
@@ -193,6 +200,7 @@ module _ (rows : List Row) where
   has_files verb.Merge (CountListed settings) names together asks are once = absurd asks
   has_files verb.Merge (Report report) names together asks are once = absurd asks
   has_files verb.Merge (Query words) names together asks are once = absurd asks
+  has_files verb.Merge (QueryListed words) names together asks are once = absurd asks
   has_files verb.Merge (Derive derived) names together asks are once = text_files verb.Merge derived names asks are
   has_files verb.Merge (DeriveFiles derived) names together asks are once = absurd once
   has_files verb.Merge (Select rule tells) names together asks are once = absurd asks
@@ -201,6 +209,7 @@ module _ (rows : List Row) where
   has_files verb.Intersect (CountListed settings) names together asks are once = absurd asks
   has_files verb.Intersect (Report report) names together asks are once = absurd asks
   has_files verb.Intersect (Query words) names together asks are once = absurd asks
+  has_files verb.Intersect (QueryListed words) names together asks are once = absurd asks
   has_files verb.Intersect (Derive derived) names together asks are once = text_files verb.Intersect derived names asks are
   has_files verb.Intersect (DeriveFiles derived) names together asks are once = absurd once
   has_files verb.Intersect (Select rule tells) names together asks are once = absurd asks
@@ -209,6 +218,7 @@ module _ (rows : List Row) where
   has_files verb.Subtract (CountListed settings) names together asks are once = absurd asks
   has_files verb.Subtract (Report report) names together asks are once = absurd asks
   has_files verb.Subtract (Query words) names together asks are once = absurd asks
+  has_files verb.Subtract (QueryListed words) names together asks are once = absurd asks
   has_files verb.Subtract (Derive derived) names together asks are once = text_files verb.Subtract derived names asks are
   has_files verb.Subtract (DeriveFiles derived) names together asks are once = absurd once
   has_files verb.Subtract (Select rule tells) names together asks are once = absurd asks
@@ -217,6 +227,7 @@ module _ (rows : List Row) where
   has_files verb.Filter (CountListed settings) names together asks are once = absurd asks
   has_files verb.Filter (Report report) names together asks are once = absurd asks
   has_files verb.Filter (Query words) names together asks are once = absurd asks
+  has_files verb.Filter (QueryListed words) names together asks are once = absurd asks
   has_files verb.Filter (Derive derived) names together asks are once = text_files verb.Filter derived names asks are
   has_files verb.Filter (DeriveFiles derived) names together asks are once = absurd once
   has_files verb.Filter (Select rule tells) names together asks are once = absurd asks
@@ -225,6 +236,7 @@ module _ (rows : List Row) where
   has_files verb.Compare (CountListed settings) names together asks are once = absurd asks
   has_files verb.Compare (Report report) names together asks are once = absurd asks
   has_files verb.Compare (Query words) names together asks are once = absurd asks
+  has_files verb.Compare (QueryListed words) names together asks are once = absurd asks
   has_files verb.Compare (Derive derived) names together asks are once = text_files verb.Compare derived names asks are
   has_files verb.Compare (DeriveFiles derived) names together asks are once = absurd once
   has_files verb.Compare (Select rule tells) names together asks are once = absurd asks
@@ -233,6 +245,7 @@ module _ (rows : List Row) where
   has_files verb.Select (CountListed settings) names together asks are once = absurd asks
   has_files verb.Select (Report report) names together asks are once = absurd asks
   has_files verb.Select (Query words) names together asks are once = absurd asks
+  has_files verb.Select (QueryListed words) names together asks are once = absurd asks
   has_files verb.Select (Derive derived) names together asks are once = absurd asks
   has_files verb.Select (DeriveFiles derived) names together asks are once = absurd asks
   has_files verb.Select (Select rule tells) names together asks are once = has_list _ (files_named rows) names are
@@ -241,6 +254,7 @@ module _ (rows : List Row) where
   has_files verb.Profile (CountListed settings) names together asks are once = absurd asks
   has_files verb.Profile (Report report) names together asks are once = absurd asks
   has_files verb.Profile (Query words) names together asks are once = absurd asks
+  has_files verb.Profile (QueryListed words) names together asks are once = absurd asks
   has_files verb.Profile (Derive derived) names together asks are once = absurd asks
   has_files verb.Profile (DeriveFiles derived) names together asks are once = absurd asks
   has_files verb.Profile (Select rule tells) names together asks are once = has_list _ (files_named rows) names are
@@ -276,6 +290,7 @@ writes_two rows verb.Select (Count settings) other together asks named = absurd 
 writes_two rows verb.Select (CountListed settings) other together asks named = absurd asks
 writes_two rows verb.Select (Report report) other together asks named = absurd asks
 writes_two rows verb.Select (Query words) other together asks named = absurd asks
+writes_two rows verb.Select (QueryListed words) other together asks named = absurd asks
 writes_two rows verb.Select (Derive derived) other together asks named = absurd asks
 writes_two rows verb.Select (DeriveFiles derived) other together asks named = absurd asks
 writes_two rows verb.Select (Select rule tells) other together asks named = absurd (no_reads rows other asks.2 named together)
@@ -288,6 +303,7 @@ as_many (Count settings) files others same h = tt
 as_many (CountListed settings) files others same h = rw same at h
 as_many (Report report) files others same h = rw same at h
 as_many (Query words) files others same h = rw same at h
+as_many (QueryListed words) files others same h = rw same at h
 as_many (Derive derived) files others same h = rw same at h
 as_many (DeriveFiles derived) files others same h = rw same at h
 as_many (Select rule tells) files others same h = rw same at h
@@ -308,6 +324,7 @@ opens_them (Count settings) names once = refl
 opens_them (CountListed settings) names once = refl
 opens_them (Report report) names once = refl
 opens_them (Query words) names once = refl
+opens_them (QueryListed words) names once = refl
 opens_them (Derive derived) names once = refl
 opens_them (DeriveFiles derived) names once = absurd once
 opens_them (Select rule tells) names once = refl
@@ -529,6 +546,7 @@ module _ (command : Verb) (rows : List Row) where
   files_by command (CountListed settings) asks = inl refl
   files_by command (Report report) asks = inl refl
   files_by command (Query words) asks = inl refl
+  files_by command (QueryListed words) asks = inl refl
   files_by command (Derive derived) asks = inl refl
   files_by command (Select rule tells) asks = inl refl
   files_by command (SelectPairs pairing) asks = inl refl

@@ -1,9 +1,10 @@
 -- The effect of a command: its task, its sources, and what is written.
 -- Source: our manual page and our formats page.
 use Rattle.std.specs.Prelude.{◌≡◌, ◌⊎◌, ◌+◌, ◌^◌, ◌≤◌, ℕ, Bool, true, false, List, [], ◌∷◌, ◌++◌, Option, Some, None}
-use Rattle.std.specs.Prelude.{All, map, length, take, drop}
+use Rattle.std.specs.Prelude.{All, String, Vec, map, length, take, drop}
 use Rattle.std.specs.Prelude.{Result, Ok, Err, if◌then◌else◌, codes, string_bytes, unwrap_or, ⊤}
 use Rattle.std.specs.Str.{bytes_eq}
+use Rattle.std.specs.declared.alloc.Global.{Global}
 use Rattle.clap.specs.Words.{Row, Text, first_of}
 use Rattle.kc_io.specs.History.{no_history}
 use Rattle.kc_io.specs.Sinks.{Written, HasWritten, HasBegun}
@@ -15,6 +16,7 @@ use Rattle.kc_report.specs.Numbers.{GivesNumbers, IsCountOf, NumbersSeen}
 use Rattle.kc_report.specs.Querying.{IsAskable, IsFirstBadWord, query_text}
 use Rattle.kc_report.specs.Table.{MaySay, table_text}
 use Rattle.kc_report.specs.TableReading.{GivesTable, RefusesTable}
+use Rattle.kc_report.specs.WordList.{GivesWords, RefusesWords}
 use Rattle.kc_combine.specs.CombinedTexts.{GiveTables}
 use Rattle.kc_combine.specs.Derivations.{DerivesNoTables, DerivesNoTexts, DerivesTables, DerivesTexts, HasHigh}
 use Rattle.kc_combine.specs.Derivations.{TakesTables, combining_of}
@@ -26,11 +28,11 @@ use Rattle.kc_combine.specs.declared.placed_fault.PlacedFault.{PlacedFault}
 use Rattle.kc_combine.specs.declared.written_tables.CombineFault.{CombineFault}
 use Rattle.kc_combine.specs.declared.written_tables.Totals.{Totals}
 use Rattle.kc_command.specs.Arguments.{AsksFor, AsksForDump, first_bad, first_bad_of_dump, first_bad_of_histo}
-use Rattle.kc_command.specs.Arguments.{tables_of, AsksForFilter, AsksForIntersection, AsksForSelection}
-use Rattle.kc_command.specs.Arguments.{AsksForSubtraction, IsFlag, first_bad_of_intersect, has_too_many_tables}
+use Rattle.kc_command.specs.Arguments.{has_too_many_tables, tables_of, AsksForFilter, AsksForIntersection, AsksForSelection}
+use Rattle.kc_command.specs.Arguments.{AsksForSubtraction, IsFlag, first_bad_of_intersect, has_no_words}
 use Rattle.kc_command.specs.Arguments.{AsksForPairs, AsksForProfile, first_bad_of_profile, first_bad_of_select}
 use Rattle.kc_command.specs.Arguments.{AsksForMatrix, first_bad_of_compare, first_table_of, pairs_refusal}
-use Rattle.kc_command.specs.Options.{high_of, only_of, solid_of}
+use Rattle.kc_command.specs.Options.{high_of, only_of, solid_of, word_list_of}
 use Rattle.kc_select.specs.Solid.{SelectionRule}
 use Rattle.kc_select.specs.SelectingPairs.{SelectsApart, SelectsInterleaved}
 use Rattle.kc_select.specs.declared.selection_counts.SelectionCounts.{SelectionCounts}
@@ -40,7 +42,7 @@ use Rattle.kc_tool.specs.Selections.{SelectsFrom}
 use Rattle.kc_tool.specs.Told.{counted_of, told_of_totals}
 use Rattle.kc_command.specs.declared.option_name.OptionName.{OptionName}
 use Rattle.kc_tool.specs.declared.option_tips.Conflict.{Conflict}
-use Rattle.kc_tool.specs.declared.option_tips.Conflict.TheVariants.{Pairs, TooManyTables}
+use Rattle.kc_tool.specs.declared.option_tips.Conflict.TheVariants.{NoWords, Pairs, TooManyTables}
 use Rattle.kc_tool.specs.Faults.{combine_fault, table_fault}
 use Rattle.kc_tool.specs.FileEvents.{FileEvent}
 use Rattle.kc_tool.specs.Files.{AreOf, AreOpened, FileRead, FileWritten, LacksFile, LacksRoom, LacksSecond}
@@ -59,8 +61,8 @@ use Rattle.kc_tool.specs.declared.told.CountedWords.{CountedWords}
 use Rattle.kc_tool.specs.declared.told.Told.{Told}
 use Rattle.kc_tool.specs.declared.told.Told.TheVariants as says
 use Rattle.kc_tool.specs.declared.commands.Task.{Task}
-use Rattle.kc_tool.specs.declared.commands.Task.TheVariants.{Count, CountListed, Report, Query, Derive, DeriveFiles}
-use Rattle.kc_tool.specs.declared.commands.Task.TheVariants.{Select, SelectPairs}
+use Rattle.kc_tool.specs.declared.commands.Task.TheVariants.{Count, CountListed, Report, Query, QueryListed}
+use Rattle.kc_tool.specs.declared.commands.Task.TheVariants.{Derive, DeriveFiles, Select, SelectPairs}
 use Rattle.kc_tool.specs.declared.paired_sources.Pairing.{Pairing}
 use Rattle.kc_tool.specs.declared.commands.Verb.{Verb}
 use Rattle.kc_tool.specs.declared.commands.Verb.TheVariants as verb
@@ -118,6 +120,28 @@ abbrev pub TellsNoTableOf : Option Seen → Option Seen → ToolFault → Type 0
 TellsNoTableOf (Some old) (Some new) fault = TellsNoTable 1 old new fault
 TellsNoTableOf old new fault = ⊥
 
+-- the words of a query
+abbrev pub QueryWords : Type 0
+QueryWords = Vec (String Global) Global
+
+-- these are the words of the command line, followed by those that the source of a list gave
+abbrev pub AreAllWords : QueryWords → Seen → Seen → QueryWords → Type 0
+AreAllWords words old new all =
+    GivesWords old new most_table_bytes (map string_bytes words.items) (map string_bytes all.items)
+
+abbrev pub AreAllWordsOf : QueryWords → Option Seen → Option Seen → QueryWords → Type 0
+AreAllWordsOf words (Some old) (Some new) all = AreAllWords words old new all
+AreAllWordsOf words old new all = ⊥
+
+-- the source gave no words, for this reason, or there was no memory for them
+abbrev pub TellsNoWords : Seen → Seen → ToolFault → Type 0
+TellsNoWords old new fault =
+    (why : ReportFault) × RefusesWords old new most_table_bytes why × (fault ≡ table_fault 0 why)
+
+abbrev pub TellsNoWordsOf : Option Seen → Option Seen → ToolFault → Type 0
+TellsNoWordsOf (Some old) (Some new) fault = TellsNoWords old new fault
+TellsNoWordsOf old new fault = ⊥
+
 -- the first table with a fault, and its place: the tables before it were read, and nothing of those after it; or there
 -- was no memory for so many tables, and nothing was read
 abbrev pub TellFirstFault : List Seen → List Seen → ToolFault → Type 0
@@ -174,6 +198,7 @@ sources_from input (file ∷ files) = file ∷ files
 -- how many of a task's files come before its sources: its list, or the table of a selection
 abbrev pub own_of : Task → ℕ
 own_of (CountListed settings) = 1
+own_of (QueryListed words) = 1
 own_of (Select rule tells) = 1
 own_of (SelectPairs pairing) = 1
 own_of task = 0
@@ -181,11 +206,12 @@ own_of task = 0
 -- the sources among a task's files: all but the first if that is its list or its table
 abbrev pub sources_in : Task → List Seen → List Seen
 sources_in (CountListed settings) files = drop 1 files
+sources_in (QueryListed words) files = drop 1 files
 sources_in (Select rule tells) files = drop 1 files
 sources_in (SelectPairs pairing) files = drop 1 files
 sources_in task files = files
 
--- what a count with a list, or a selection, is given: the first file is the list, or the table
+-- what a task with a list, or a selection, is given: the first file is the list, or the table
 abbrev pub given_listed : Seen → List Seen → Given
 given_listed input [] = given None (input ∷ [])
 given_listed input (list ∷ files) = given (Some list) (sources_from input files)
@@ -193,6 +219,7 @@ given_listed input (list ∷ files) = given (Some list) (sources_from input file
 -- what a task is given
 abbrev pub given_of : Task → Seen → List Seen → Given
 given_of (CountListed settings) input files = given_listed input files
+given_of (QueryListed words) input files = given_listed input files
 given_of (Select rule tells) input files = given_listed input files
 given_of (SelectPairs pairing) input files = given_listed input files
 given_of task input files = given None (sources_from input files)
@@ -218,13 +245,14 @@ HasTablesFor (derive.Spectrum high) count = count ≡ 2
 HasTablesFor (derive.Dump dump) count = count ≤ 1
 
 -- the task has its files: a count with a list has the list, a selection has its table, a report on a table has at most
--- one source, a derivation has the tables that it takes, or each of their files twice, and a selection of pairs has a
--- table and two sources
+-- one source, a query with a list has that and one source, a derivation has the tables that it takes, or each of their
+-- files twice, and a selection of pairs has a table and two sources
 abbrev pub HasFilesFor : {X : Type 0} → Task → List X → Type 0
 HasFilesFor (Count settings) files = ⊤
 HasFilesFor (CountListed settings) files = 1 ≤ length files
 HasFilesFor (Report report) files = length files ≤ 1
 HasFilesFor (Query words) files = length files ≤ 1
+HasFilesFor (QueryListed words) files = length files ≡ 2
 HasFilesFor (Derive derived) files = HasTablesFor derived (length files)
 HasFilesFor (DeriveFiles derived) files = (half : ℕ) × TakesTables derived half × (length files ≡ half + half)
 HasFilesFor (Select rule tells) files = 1 ≤ length files
@@ -237,6 +265,7 @@ IsTallyFor old new (Count settings) table = Counts old new settings table
 IsTallyFor old new (CountListed settings) table = Counts old new settings table
 IsTallyFor old new (Report report) table = TellOneTable old.sources new.sources table
 IsTallyFor old new (Query words) table = TellOneTable old.sources new.sources table
+IsTallyFor old new (QueryListed words) table = ⊥
 IsTallyFor old new (Derive derived) table = ⊥
 IsTallyFor old new (DeriveFiles derived) table = ⊥
 IsTallyFor old new (Select rule tells) table = ⊥
@@ -248,6 +277,7 @@ HasNoTallyFor old new (Count settings) fault = RefusesCount old new settings fau
 HasNoTallyFor old new (CountListed settings) fault = RefusesCount old new settings fault
 HasNoTallyFor old new (Report report) fault = TellNoTable old.sources new.sources fault
 HasNoTallyFor old new (Query words) fault = TellNoTable old.sources new.sources fault
+HasNoTallyFor old new (QueryListed words) fault = ⊥
 HasNoTallyFor old new (Derive derived) fault = ⊥
 HasNoTallyFor old new (DeriveFiles derived) fault = ⊥
 HasNoTallyFor old new (Select rule tells) fault = ⊥
@@ -260,6 +290,7 @@ IsAnswer (CountListed settings) table text = text ≡ report_text (report_of set
 IsAnswer (Report report) table text = text ≡ numbers_text report table
 IsAnswer (Query words) table text = All (IsAskable table.0.k) (map string_bytes words.items)
     × (text ≡ query_text table.0 (map string_bytes words.items))
+IsAnswer (QueryListed words) table text = ⊥
 IsAnswer (Derive derived) table text = ⊥
 IsAnswer (DeriveFiles derived) table text = ⊥
 IsAnswer (Select rule tells) table text = ⊥
@@ -371,6 +402,19 @@ DoesByTally task old new (Err Write) = (text : List ℕ) × (told : Told)
     × IsTextFor old.given new.given task text told × HasBegun old.output new.output text
 DoesByTally task old new (Err fault) = (new.output ≡ old.output) × HasFaultFor old.given new.given task fault
 
+-- the same without a list
+abbrev pub without_list : Stage → Stage
+without_list stage = record { given = given None stage.given.sources; output = stage.output }
+
+-- The effect of a query with a list: its source gave words, and all words, those of the command line and then these,
+-- were queried; or it gave none, and nothing else was read, and nothing written.
+abbrev pub QueriesBy : QueryWords → Stage → Stage → Result Told ToolFault → Type 0
+QueriesBy words old new outcome =
+    ((all : QueryWords) × AreAllWordsOf words old.given.list new.given.list all
+    × DoesByTally (Query all) (without_list old) (without_list new) outcome)
+    ⊎ ((fault : ToolFault) × (outcome ≡ Err fault) × TellsNoWordsOf old.given.list new.given.list fault
+    × (new.given.sources ≡ old.given.sources) × (new.output ≡ old.output))
+
 -- a task that takes its sources one after another
 abbrev pub TakesSources : Task → Type 0
 TakesSources (DeriveFiles derived) = ⊥
@@ -379,6 +423,7 @@ TakesSources task = ⊤
 
 -- the effect of a task, and what there is to report of it
 abbrev pub Does : Task → Stage → Stage → Result Told ToolFault → Type 0
+Does (QueryListed words) old new outcome = QueriesBy words old new outcome
 Does (Select rule tells) old new outcome = SelectsBy rule tells old new outcome
 Does (SelectPairs pairing) old new outcome = SelectsPairsInto pairing old new outcome
 Does (Derive derived) old new outcome =
@@ -438,7 +483,10 @@ AsksForTask verb.Dump rows (Derive derived) = AsksForText verb.Dump rows derived
 AsksForTask verb.Dump rows (DeriveFiles derived) = AsksForText verb.Dump rows derived
 AsksForTask verb.Histo rows (Report (lists.Histogram high)) = high_of rows ≡ Some high
 AsksForTask verb.Stats rows (Report lists.Statistics) = ⊤
-AsksForTask verb.Query rows (Query words) = map string_bytes words.items ≡ words_asked rows
+AsksForTask verb.Query rows (Query words) = (map string_bytes words.items ≡ words_asked rows)
+    × (word_list_of rows ≡ None)
+AsksForTask verb.Query rows (QueryListed words) = (map string_bytes words.items ≡ words_asked rows)
+    × ((name : Text) × (word_list_of rows ≡ Some name))
 AsksForTask verb.Merge rows (Derive derived) = AsksForText verb.Merge rows derived
 AsksForTask verb.Merge rows (DeriveFiles derived) = AsksForText verb.Merge rows derived
 AsksForTask verb.Intersect rows (Derive derived) = AsksForText verb.Intersect rows derived
@@ -468,8 +516,10 @@ first_refused verb.Select rows = first_bad_of_select rows
 first_refused verb.Profile rows = first_bad_of_profile rows
 first_refused verb rows = None
 
--- the arguments of a command don't conflict: the options of a selection fit together, and there are at most 64 tables
+-- the arguments of a command don't conflict: the options of a selection fit together, there are at most 64 tables, and a
+-- query has words
 abbrev pub GoTogether : Verb → List Row → Type 0
+GoTogether verb.Query rows = has_no_words rows ≡ false
 GoTogether verb.Select rows = pairs_refusal rows ≡ None
 GoTogether verb.Merge rows = has_too_many_tables rows ≡ false
 GoTogether verb.Intersect rows = has_too_many_tables rows ≡ false
@@ -478,30 +528,36 @@ GoTogether command rows = ⊤
 
 -- they conflict, for this reason
 abbrev pub AreNotTogether : Verb → List Row → Conflict → Type 0
+AreNotTogether verb.Query rows NoWords = has_no_words rows ≡ true
 AreNotTogether verb.Select rows (Pairs why) = pairs_refusal rows ≡ Some why
 AreNotTogether verb.Merge rows TooManyTables = has_too_many_tables rows ≡ true
 AreNotTogether verb.Intersect rows TooManyTables = has_too_many_tables rows ≡ true
 AreNotTogether verb.Subtract rows TooManyTables = has_too_many_tables rows ≡ true
 AreNotTogether command rows why = ⊥
 
--- the list of a count before its files, if one is named
+-- the list of a count or a query before its files, if one is named
 abbrev pub behind_list : Option Text → List Text → List Text
 behind_list None names = names
 behind_list (Some list) names = list ∷ names
 
--- the table of a selection before its files; `clap` allows no missing table, which would have an empty name
+-- the table of a query or a selection; `clap` allows no missing table, which would have an empty name
+abbrev pub named_table : List Row → Text
+named_table rows = unwrap_or (first_of (codes "table") rows) []
+
+-- the table of a selection before its files
 abbrev pub behind_table : List Row → List Text
-behind_table rows = unwrap_or (first_of (codes "table") rows) [] ∷ files_named rows
+behind_table rows = named_table rows ∷ files_named rows
 
 -- the two tables of a comparison; `clap` allows no missing table, which would have an empty name
 abbrev pub compared_tables : List Row → List Text
 compared_tables rows = unwrap_or (first_table_of rows) [] ∷ unwrap_or (first_of (codes "second") rows) [] ∷ []
 
--- the files that a command reads, in order: for a count, its list and all files; for a selection and a profile, their
--- table and all files; for a sum, an intersection, a difference and a comparison, all tables; for any other, the first
--- file
+-- the files that a command reads, in order: for a count, its list and all files; for a query, its list and its table;
+-- for a selection and a profile, their table and all files; for a sum, an intersection, a difference and a comparison,
+-- all tables; for any other, the first file
 abbrev pub files_of : Verb → List Row → List Text
 files_of verb.Count rows = behind_list (only_of rows) (files_named rows)
+files_of verb.Query rows = behind_list (word_list_of rows) (named_table rows ∷ [])
 files_of verb.Select rows = behind_table rows
 files_of verb.Profile rows = behind_table rows
 files_of verb.Merge rows = tables_of rows

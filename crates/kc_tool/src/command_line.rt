@@ -28,7 +28,7 @@ use crate::tool_faults::ToolFault;
 use clap::ArgMatches;
 use clap::error::ErrorKind;
 use kc_command::command::command;
-use kc_command::{has_flag, has_too_many_tables, pairs_refusal};
+use kc_command::{has_flag, has_no_words, has_too_many_tables, pairs_refusal};
 use kc_io::{Failed, Sink, Source, write_out};
 use kc_report::Block;
 use kc_select::SelectionCounts;
@@ -127,6 +127,7 @@ fn conflict_of(verb: Verb, matches: &ArgMatches<'_>) -> Option<Conflict>
         Verb::Merge | Verb::Intersect | Verb::Subtract if has_too_many_tables(matches) => {
             Some(Conflict::TooManyTables)
         }
+        Verb::Query if has_no_words(matches) => Some(Conflict::NoWords),
         _ => None,
     }
 }

@@ -24,6 +24,7 @@ ghost use Rattle.kc_tool.specs.Commands.{
   KeepsInput,
   LacksOutput,
   OpensOnce,
+  QueriesBy,
   SelectsBy,
   SelectsPairsInto,
   TakesSources,
@@ -60,7 +61,9 @@ use crate::pairs_writers::{Apart, Interleaved};
 use crate::reports::report_given;
 use crate::selected_sources::select_given;
 use crate::table_reports::TableReport;
-use crate::task_tallies::{asked_rows, numbers_of, report_listed, table_from, tables_of};
+use crate::task_tallies::{
+    all_words, asked_rows, numbers_of, report_listed, table_from, tables_of,
+};
 use crate::told::{CountedWords, Told, told_of_totals};
 use crate::tool_faults::{ToolFault, combine_fault};
 use crate::two_passes::derive_files;
@@ -139,6 +142,8 @@ pub(crate) enum Task {
     Report(TableReport),
     /// Reads a table, and writes the counts of these words.
     Query(Vec<String>),
+    /// Reads a table, and writes the counts of these words, and then of those of a list, which is the first file.
+    QueryListed(Vec<String>),
     /// Reads tables, and writes what is derived from them.
     Derive(Derived),
     /// Reads tables from regular files, each of which is opened twice, and writes what is derived from them.
@@ -404,6 +409,7 @@ fn answer_of_sources<H: Threads + Wait + Sync, R: Source, F: Source, W: Sink, P:
         Task::CountListed(options) => count_listed(means, options, &mut sources, output),
         Task::Report(report) => report_table(means, *report, &mut sources, output),
         Task::Query(words) => query_table(means, words, &mut sources, output),
+        Task::QueryListed(words) => query_listed(means, words, &mut sources, output),
         Task::Derive(derived) => write_derived(means, *derived, &mut sources, output),
         Task::Select(selection, tells) => {
             select_by_table(means, *selection, *tells, &mut sources, output)
@@ -417,7 +423,10 @@ fn own_file_count(task: &Task) -> usize
     ensures { result ≡ own_of task.now }
 {
     match task {
-        Task::CountListed(_) | Task::Select(_, _) | Task::SelectPairs(_) => 1,
+        Task::CountListed(_)
+        | Task::QueryListed(_)
+        | Task::Select(_, _)
+        | Task::SelectPairs(_) => 1,
         _ => 0,
     }
 }
@@ -509,6 +518,27 @@ fn query_table<H: Threads, R: Source, F: Source, W: Sink, P: Progress>(
     means.progress.begins(Stage::Text);
     query(output, &few, words)?;
     Ok(Told::Nothing)
+}
+
+// Reads the words of the list, which is the first file, and the table of the only source, and writes the counts of these
+// words of the command line, and then of those of the list. Condition: the list and the source are two files.
+fn query_listed<H: Threads, R: Source, F: Source, W: Sink, P: Progress>(
+    means: &Means<'_, H, P>,
+    words: &Vec<String>,
+    sources: &mut GivenSources<'_, '_, '_, R, F>,
+    output: &mut W,
+) -> Result<Told, ToolFault>
+    requires own { sources.old.own ≡ 1 }
+    requires two { length sources.old.files.now ≡ 2 }
+    ensures done { QueriesBy words.now
+        (record { given = listed_in R.seen F.seen sources.old; output = W.seen output.old })
+        (record { given = listed_in R.seen F.seen sources.new; output = W.seen output.new })
+        result }
+    ensures kept { KeepsFiles R.seen F.seen sources.old sources.new }
+{
+    let files = &mut *sources.files;
+    let all = all_words(means.alloc, words, &mut files[0].source)?;
+    query_table(means, &all, sources, output)
 }
 
 // Reads the tables of the sources, and writes what is derived from them. Conditions: there are as many sources as are
@@ -622,8 +652,11 @@ fn task_of(alloc: Global, verb: Verb, matches: &ArgMatches<'_>) -> Result<Task, 
         Verb::Histo => Ok(Task::Report(TableReport::Histogram(high_of(matches)?))),
         Verb::Stats => Ok(Task::Report(TableReport::Statistics)),
         Verb::Query => {
-            let words = texts_of(alloc, matches, "word")?;
-            Ok(Task::Query(owned_texts(alloc, &words)?))
+            let words = owned_texts(alloc, &texts_of(alloc, matches, "word")?)?;
+            match text_of(matches, "file") {
+                None => Ok(Task::Query(words)),
+                Some(_) => Ok(Task::QueryListed(words)),
+            }
         }
         Verb::Merge => Ok(Task::Derive(Derived::Table(Combining::Merge))),
         Verb::Intersect => Ok(Task::Derive(Derived::Table(intersect_options(matches)?))),
@@ -669,9 +702,9 @@ fn selection_task(matches: &ArgMatches<'_>) -> Result<Task, ToolFault>
     }
 }
 
-// The names of the files that a command reads: for a count, its list and all files; for a selection and a profile,
-// their table and all files; for a sum, an intersection, a difference and a comparison, all tables; and for any other
-// command, the first file.
+// The names of the files that a command reads: for a count, its list and all files; for a query, its list and its
+// table; for a selection and a profile, their table and all files; for a sum, an intersection, a difference and a
+// comparison, all tables; and for any other command, the first file.
 fn file_names<'a>(
     alloc: Global,
     verb: Verb,
@@ -686,6 +719,13 @@ fn file_names<'a>(
             match text_of(matches, "only") {
                 None => Ok(files),
                 Some(list) => names_with_first(alloc, list, &files),
+            }
+        }
+        Verb::Query => {
+            let table = text_of(matches, "table").unwrap_or("");
+            match text_of(matches, "file") {
+                None => names_with_first(alloc, table, &[]),
+                Some(list) => names_with_first(alloc, list, &[table]),
             }
         }
         Verb::Select | Verb::Profile => {

@@ -125,7 +125,16 @@ fn table_name<'m>(known: &Known<'_, 'm>) -> &'m str {
     match known.verb {
         Verb::Merge | Verb::Intersect | Verb::Subtract | Verb::Compare => last_table_name(known),
         Verb::Select | Verb::Profile => file_argument("table", known.matches),
+        Verb::Query => queried_name(known),
         _ => file_name(1, known.matches),
+    }
+}
+
+// The name of a query's list, if nothing was read after it, or of its table.
+fn queried_name<'m>(known: &Known<'_, 'm>) -> &'m str {
+    match text_of(known.matches, "file") {
+        Some(list) if known.looks.count < 2 => list,
+        _ => file_argument("table", known.matches),
     }
 }
 
@@ -318,13 +327,8 @@ fn explain_option(
 
 // An asked word is none of the table's.
 fn explain_word(alloc: Global, number: u64, known: &Known<'_, '_>) -> Result<String, AllocError> {
-    let at = usize::try_from(number.saturating_sub(1)).unwrap_or(usize::MAX);
     let mut text = String::new(alloc);
-    if let Some(words) = known.matches.get_strs("word") {
-        if let Some(word) = words.get(at) {
-            text.push_str(*word)?;
-        }
-    }
+    push_asked_word(&mut text, number, known)?;
     let length = header_field(&known.looks.last, 2);
     if length.is_empty() {
         return line(alloc, text.as_str(), " is no k-mer of this table", "");
@@ -336,6 +340,24 @@ fn explain_word(alloc: Global, number: u64, known: &Known<'_, '_>) -> Result<Str
         length,
         " and are of A, C, G and T alone",
     )
+}
+
+// Appends the asked word with this number, from 1: itself, or its place in the list.
+fn push_asked_word(
+    text: &mut String,
+    number: u64,
+    known: &Known<'_, '_>,
+) -> Result<(), AllocError> {
+    let words = known.matches.get_strs("word").unwrap_or(&[]);
+    let at = usize::try_from(number.saturating_sub(1)).unwrap_or(usize::MAX);
+    if let Some(word) = words.get(at) {
+        return text.push_str(*word);
+    }
+    let mut digits = Buffer::new();
+    text.push_str("k-mer ")?;
+    text.push_str(digits.format(number.saturating_sub(words.len() as u64)))?;
+    text.push_str(" of ")?;
+    text.push_str(file_argument("file", known.matches))
 }
 
 // A field of the header of a table with these first bytes.

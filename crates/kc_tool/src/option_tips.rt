@@ -65,6 +65,8 @@ pub(crate) enum Conflict {
     Pairs(PairsRefusal),
     /// More than 64 tables are given.
     TooManyTables,
+    /// A query has no words.
+    NoWords,
 }
 
 /// The text of a refusal of arguments that conflict, in the form of those of `clap`.
@@ -76,6 +78,7 @@ pub(crate) fn conflict_text(
     let reason = match conflict {
         Conflict::Pairs(refusal) => refusal_reason(refusal),
         Conflict::TooManyTables => "at most 64 tables can be combined",
+        Conflict::NoWords => "a query needs a WORD, or a list of words: --file <WORDS>",
     };
     let mut text = String::from_str(alloc, "error: ")?;
     text.push_str(reason)?;
@@ -91,6 +94,7 @@ fn usage_of(verb: Verb) -> &'static str {
         Verb::Merge => "merge [OPTIONS] <FIRST> <SECOND>...",
         Verb::Intersect => "intersect [OPTIONS] <FIRST> <SECOND>...",
         Verb::Subtract => "subtract [OPTIONS] <FIRST> <SECOND>...",
+        Verb::Query => "query [OPTIONS] <TABLE> [WORD]...",
         _ => "select [OPTIONS] <TABLE> [FILE]...",
     }
 }

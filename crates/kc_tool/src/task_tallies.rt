@@ -7,11 +7,13 @@ ghost use Rattle.kc_report.specs.TableReading.{GivesTable};
 ghost use Rattle.kc_tool.specs.GivenSources.{Keeps, KeepsFiles, listed_in, seen_in};
 ghost use Rattle.kc_tool.specs.Reports.{ReportsCount};
 ghost use Rattle.kc_tool.specs.Commands.{
+  AreAllWords,
   TellCountsOf,
   TellFirstFault,
   TellNoTable,
   TellOneTableOf,
   TellsNoTable,
+  TellsNoWords,
   most_table_bytes,
 };
 
@@ -24,9 +26,9 @@ use crate::tool_faults::{ToolFault, table_fault};
 use kc_combine::LoadedTable;
 use kc_command::Options;
 use kc_io::{Sink, Source};
-use kc_report::{Origin, TableNumbers, read_asked, read_numbers, read_table};
+use kc_report::{Origin, TableNumbers, read_asked, read_numbers, read_table, read_words};
 use kc_tally::Tally;
-use std::alloc::Global;
+use std::alloc::{AllocError, Global};
 use std::sync::Wait;
 use std::thread::Threads;
 
@@ -136,6 +138,36 @@ impl ReadsSource<()> for NumbersReader {
             Err(why) => Err(table_fault(1, why)),
         }
     }
+}
+
+/// These words, followed by those of the list that this source gives.
+///
+/// # Errors
+/// The fault of the list. `Memory` if there was no memory for the words.
+pub(crate) fn all_words<R: Source>(
+    alloc: Global,
+    words: &Vec<String>,
+    list: &mut R,
+) -> Result<Vec<String>, ToolFault>
+    ensures all { IfOk result (AreAllWords words.now (R.seen list.old) (R.seen list.new)) }
+    ensures fault { IfErr result (TellsNoWords (R.seen list.old) (R.seen list.new)) }
+{
+    let mut all = copies(alloc, words)?;
+    match read_words(alloc, list, MAX_TABLE_BYTES, &mut all) {
+        Ok(()) => Ok(all),
+        Err(why) => Err(table_fault(0, why)),
+    }
+}
+
+// Copies of the words.
+fn copies(alloc: Global, words: &[String]) -> Result<Vec<String>, AllocError>
+    ensures { IfOk result (λ copies. map string_bytes copies.items ≡ map string_bytes words.now) }
+{
+    let mut copies = Vec::with_capacity(alloc, words.len())?;
+    for word in words {
+        copies.push(String::from_str(alloc, word.as_str())?)?;
+    }
+    Ok(copies)
 }
 
 /// The rows of these words in the table of the only source. No other rows are kept. Condition: there is one source.

@@ -1,10 +1,10 @@
-use Rattle.std.proofs.Common.{◌≡◌, ◌++◌, ◌∷◌, [], arith, map, sym}
+use Rattle.std.proofs.Common.{arith, map, sym}
 use Rattle.std.specs.Prelude.{string_bytes}
 use Rattle.std.proofs.lemmas.Result.{err_from_is_err_and}
 use Rattle.std.proofs.lemmas.List.{length_push}
 use Rattle.kc_report.proofs.AskedLemmas.{GivesOneMore, asked_rows, has_counts, keeps_row, leaves_row}
 use Rattle.kc_report.proofs.RowByRowLemmas.{given_few, given_packs, rows_in_vain, table_in_vain}
-use Rattle.kc_report.specs.AskedWords.{AreNumbersOf, HasCountsOf}
+use Rattle.kc_report.specs.AskedWords.{AreNumbersOf}
 use Rattle.kc_report.specs.RowByRow.{tally_of}
 use Rattle.kc_report.proofs.queries.read_asked.Goals as goal
 

@@ -1,7 +1,6 @@
-use Rattle.std.proofs.Common.{◌≡◌, ◌+◌, ◌-◌, ◌^◌, ◌<◌, ◌≤◌, ◌++◌, ◌∷◌, [], cond, eqb, ⊎_elim, length, get_or, set, ap, sym, subst, arith}
+use Rattle.std.proofs.Common.{◌≡◌, ◌+◌, ◌-◌, ◌^◌, ◌<◌, ◌≤◌, ◌++◌, ◌∷◌, [], cond, eqb, ⊎_elim, length, set, ap, sym, subst, arith}
 use Rattle.std.proofs.lemmas.Bool.{cases_Bool}
 use Rattle.std.proofs.lemmas.List.{get_or_read}
-use Rattle.kc_tally.specs.declared.tally_statistics.Statistics.{Statistics}
 use Rattle.kc_report.specs.Numbers.{IsCountOf, NumbersSeen}
 use Rattle.kc_report.proofs.NumbersLemmas.{counts_inside, counts_past, distinct_few, one_most, place_fits, unique_few, with_one}
 use Rattle.kc_report.proofs.table_numbers.TableNumbers.count.Goals as goal
