@@ -12,7 +12,7 @@ use Rattle.kc_select.specs.Solid.{SelectionRule, profile_rule}
 use Rattle.kc_select.specs.declared.pair_rule.PairRule.{PairRule}
 use Rattle.kc_command.specs.Options.{batch_of, floor_of, high_of, keep_of, lower_of, max_count_of, mer_len_of}
 use Rattle.kc_command.specs.Options.{min_count_of, min_share_of, print_of, size_of, solid_of, stripes_of, take_of}
-use Rattle.kc_command.specs.Options.{threads_of, upper_of}
+use Rattle.kc_command.specs.Options.{threads_of, upper_of, word_list_of}
 use Rattle.kc_command.specs.Settings.{Settings, lowered}
 use Rattle.kc_command.specs.declared.comparison_options.CompareOptions.{CompareOptions}
 use Rattle.kc_command.specs.declared.option_name.OptionName.{OptionName}
@@ -36,6 +36,10 @@ tables_of rows = unwrap_or (first_table_of rows) [] ∷ other_tables_of rows
 -- there are more than 64 tables: the first one, and more than 63 others
 abbrev pub has_too_many_tables : List Row → Bool
 has_too_many_tables rows = nat_lt 63 (length (other_tables_of rows))
+
+-- `query` is given no words: no WORD, and no file of words
+abbrev pub has_no_words : List Row → Bool
+has_no_words rows = is_none (first_of (codes "word") rows) && is_none (word_list_of rows)
 
 -- Which value is refused: the first one outside its limits, in the order of the help, even if the option has no effect.
 

@@ -5,11 +5,12 @@ use Rattle.clap.specs.Simple.{new_shape}
 use Rattle.clap.specs.Words.{App, Rule, Shape, Text, new_rule}
 use Rattle.clap.specs.declared.builder.action.ArgAction.TheVariants.{Append}
 use Rattle.kc_command.specs.Options.{batch_option, canonical_option, column_option, counts_option, explain_option}
-use Rattle.kc_command.specs.Options.{high_option, invert_option, keep_option, lower_count_option, matrix_option}
-use Rattle.kc_command.specs.Options.{max_count_option, mer_len_option, min_count_option, min_qual_char_option}
-use Rattle.kc_command.specs.Options.{min_share_option, only_option, output_option, output2_option, pairs_option}
-use Rattle.kc_command.specs.Options.{print_option, size_option, solid_option, stats_option, stripes_option, tab_option}
-use Rattle.kc_command.specs.Options.{take_option, threads_option, upper_count_option, with_short}
+use Rattle.kc_command.specs.Options.{file_option, high_option, invert_option, keep_option, lower_count_option}
+use Rattle.kc_command.specs.Options.{matrix_option, max_count_option, mer_len_option, min_count_option}
+use Rattle.kc_command.specs.Options.{min_qual_char_option, min_share_option, only_option, output_option, output2_option}
+use Rattle.kc_command.specs.Options.{pairs_option, print_option, size_option, solid_option, stats_option}
+use Rattle.kc_command.specs.Options.{stripes_option, tab_option, take_option, threads_option, upper_count_option}
+use Rattle.kc_command.specs.Options.{with_short}
 
 -- an argument that is given at most once
 abbrev pub one_argument : Text → Rule
@@ -33,11 +34,7 @@ file_argument = one_argument (codes "file")
 
 -- TABLE, a required file
 abbrev pub table_argument : Rule
-table_argument = required file_argument
-
--- TABLE of a selection or of a profile, a required file
-abbrev pub counted_argument : Rule
-counted_argument = required (one_argument (codes "table"))
+table_argument = required (one_argument (codes "table"))
 
 -- FIRST, a required file
 abbrev pub first_argument : Rule
@@ -55,9 +52,9 @@ reads_argument = required (one_argument (codes "first"))
 abbrev pub assembly_argument : Rule
 assembly_argument = required (one_argument (codes "second"))
 
--- WORD, at least once
+-- WORD, any number of times
 abbrev pub words_argument : Rule
-words_argument = required (several_arguments (codes "word"))
+words_argument = several_arguments (codes "word")
 
 -- `kcount count`
 abbrev pub count_shape : Shape
@@ -105,10 +102,10 @@ histo_shape = record (new_shape (codes "histo")) {
 abbrev pub stats_shape : Shape
 stats_shape = record (new_shape (codes "stats")) { rules = output_option ∷ explain_option ∷ file_argument ∷ [] }
 
--- `kcount query`
+-- `kcount query`, which takes a table and any number of words
 abbrev pub query_shape : Shape
 query_shape = record (new_shape (codes "query")) {
-  rules = output_option ∷ explain_option ∷ table_argument ∷ words_argument ∷ [];
+  rules = file_option ∷ output_option ∷ explain_option ∷ table_argument ∷ words_argument ∷ [];
 }
 
 -- `kcount merge`, which takes two files or more
@@ -167,7 +164,7 @@ select_shape = record (new_shape (codes "select")) {
       ∷ output_option
       ∷ output2_option
       ∷ explain_option
-      ∷ counted_argument
+      ∷ table_argument
       ∷ files_argument
       ∷ [];
 }
@@ -175,7 +172,7 @@ select_shape = record (new_shape (codes "select")) {
 -- `kcount profile`, which takes a table and any number of files
 abbrev pub profile_shape : Shape
 profile_shape = record (new_shape (codes "profile")) {
-  rules = min_qual_char_option ∷ output_option ∷ explain_option ∷ counted_argument ∷ files_argument ∷ [];
+  rules = min_qual_char_option ∷ output_option ∷ explain_option ∷ table_argument ∷ files_argument ∷ [];
 }
 
 -- `kcount` without its commands

@@ -23,6 +23,7 @@ use Rattle.kc_command.specs.Arguments.{
   first_bad_of_profile,
   first_bad_of_select,
   first_table_of,
+  has_no_words,
   has_pairs,
   has_too_many_tables,
   pairs_refusal,
@@ -49,6 +50,7 @@ use Rattle.kc_command.specs.Options.{
   take_of,
   threads_of,
   upper_of,
+  word_list_of,
 }
 use Rattle.kc_command.specs.Settings.{lowered}
 use Rattle.kc_command.specs.declared.option_name.OptionName.{OptionName}
@@ -200,9 +202,56 @@ pub record ReadsTables : Type 0 where
   pub second_file : fault_of kcount_app (dump_with (codes "a" ∷ codes "b" ∷ [])) ≡ UnknownArgument ∷ []
   pub high : first_bad_of_histo (options_of (codes "kcount" ∷ codes "histo" ∷ codes "--high=0" ∷ []))
       ≡ Some option.High
-  pub no_word : fault_of kcount_app (query_with (codes "t.kct" ∷ [])) ≡ MissingRequiredArgument ∷ []
-  pub words : all_of (codes "word") (options_of (query_with (codes "t.kct" ∷ codes "CGT" ∷ codes "aaa" ∷ [])))
-      ≡ Some (codes "CGT" ∷ codes "aaa" ∷ [])
+
+-- `kcount query --file w.txt t.kct`
+abbrev pub words_of_a_file : List Text
+words_of_a_file = query_with (codes "--file" ∷ codes "w.txt" ∷ codes "t.kct" ∷ [])
+
+-- `kcount query t.kct ACG --file w.txt`
+abbrev pub words_of_both : List Text
+words_of_both = query_with (codes "t.kct" ∷ codes "ACG" ∷ codes "--file" ∷ codes "w.txt" ∷ [])
+
+-- `kcount query t.kct CGT aaa`
+abbrev pub given_words : List Text
+given_words = query_with (codes "t.kct" ∷ codes "CGT" ∷ codes "aaa" ∷ [])
+
+-- `kcount query t.kct`
+abbrev pub no_words : List Text
+no_words = query_with (codes "t.kct" ∷ [])
+
+-- looks up words of the command line, of a file, whose name may be any text, or of both in a table; `clap` takes a
+-- command line without words, and `has_no_words` tells it
+pub record LooksUpWords : Type 0 where
+  pub taken : fault_of kcount_app words_of_a_file ≡ []
+  pub command : option_map (λ met. met.0) (subcommand_of kcount_app words_of_a_file) ≡ Some (codes "query")
+  pub list : word_list_of (options_of words_of_a_file) ≡ Some (codes "w.txt")
+  pub table : all_of (codes "table") (options_of words_of_a_file) ≡ Some (codes "t.kct" ∷ [])
+  pub no_word : all_of (codes "word") (options_of words_of_a_file) ≡ None
+  pub list_is_enough : has_no_words (options_of words_of_a_file) ≡ false
+  pub both_taken : fault_of kcount_app words_of_both ≡ []
+  pub table_before : all_of (codes "table") (options_of words_of_both) ≡ Some (codes "t.kct" ∷ [])
+  pub word_before : all_of (codes "word") (options_of words_of_both) ≡ Some (codes "ACG" ∷ [])
+  pub list_behind : word_list_of (options_of words_of_both) ≡ Some (codes "w.txt")
+  pub both_are_enough : has_no_words (options_of words_of_both) ≡ false
+  pub words_taken : fault_of kcount_app given_words ≡ []
+  pub words : all_of (codes "word") (options_of given_words) ≡ Some (codes "CGT" ∷ codes "aaa" ∷ [])
+  pub table_of_words : all_of (codes "table") (options_of given_words) ≡ Some (codes "t.kct" ∷ [])
+  pub no_list : word_list_of (options_of given_words) ≡ None
+  pub words_are_enough : has_no_words (options_of given_words) ≡ false
+  pub one_word_is_enough : has_no_words (options_of (query_with (codes "t.kct" ∷ codes "ACG" ∷ []))) ≡ false
+  pub empty_word_is_enough : has_no_words (options_of (query_with (codes "t.kct" ∷ [] ∷ []))) ≡ false
+  pub nothing_taken : fault_of kcount_app no_words ≡ []
+  pub nothing : has_no_words (options_of no_words) ≡ true
+  pub output : first_of (codes "output") (options_of (query_with (codes "-oout" ∷ codes "t.kct" ∷ [])))
+      ≡ Some (codes "out")
+  pub empty_name_taken : fault_of kcount_app (query_with (codes "--file=" ∷ codes "t.kct" ∷ [])) ≡ []
+  pub empty_name : word_list_of (options_of (query_with (codes "--file=" ∷ codes "t.kct" ∷ []))) ≡ Some []
+  pub no_name : fault_of kcount_app (query_with (codes "t.kct" ∷ codes "--file" ∷ [])) ≡ InvalidValue ∷ []
+  pub twice : fault_of kcount_app (query_with (codes "--file=x" ∷ codes "--file=x" ∷ codes "t.kct" ∷ []))
+      ≡ ArgumentConflict ∷ []
+  pub no_table : fault_of kcount_app (query_with (codes "--file" ∷ codes "w.txt" ∷ []))
+      ≡ MissingRequiredArgument ∷ []
+  pub of_dump : fault_of kcount_app (dump_with (codes "--file" ∷ codes "w.txt" ∷ [])) ≡ UnknownArgument ∷ []
 
 -- `kcount merge`, followed by these arguments
 abbrev pub merge_with : List Text → List Text

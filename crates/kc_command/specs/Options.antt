@@ -160,6 +160,14 @@ only_option = value_option (codes "only")
 abbrev pub only_of : List Row → Option Text
 only_of rows = first_of (codes "only") rows
 
+-- `--file`, the name of a file of words, one a line, which may be any text: its words are looked up after those of the
+-- command line; if it is not given, those are all
+abbrev pub file_option : Rule
+file_option = value_option (codes "file")
+
+abbrev pub word_list_of : List Row → Option Text
+word_list_of rows = first_of (codes "file") rows
+
 -- the count that an intersection gives a word, by its name: the least, the greatest or the sum of the word's counts, or
 -- that in the first table
 abbrev pub take_named : Text → Option Take

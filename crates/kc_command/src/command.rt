@@ -19,13 +19,13 @@ ghost use Rattle.kc_command.specs.Command.{
 };
 
 use crate::command_arguments::{
-    assembly, counted_table, file, files, first, output, reads, second, table, with_short, words,
+    assembly, file, files, first, output, reads, second, table, with_short, words,
 };
 use crate::help;
 use crate::option_table::{
-    BATCH, CANONICAL, COLUMN, COUNTS, EXPLAIN, HIGH, INVERT, KEEP, LOWER_COUNT, MATRIX, MAX_COUNT,
-    MER_LEN, MIN_COUNT, MIN_QUAL_CHAR, MIN_SHARE, ONLY, OUTPUT2, PAIRS, PRINT, SIZE, SOLID,
-    STATS as SELECTION_STATS, STRIPES, TAB, TAKE, THREADS, UPPER_COUNT,
+    BATCH, CANONICAL, COLUMN, COUNTS, EXPLAIN, FILE, HIGH, INVERT, KEEP, LOWER_COUNT, MATRIX,
+    MAX_COUNT, MER_LEN, MIN_COUNT, MIN_QUAL_CHAR, MIN_SHARE, ONLY, OUTPUT2, PAIRS, PRINT, SIZE,
+    SOLID, STATS as SELECTION_STATS, STRIPES, TAB, TAKE, THREADS, UPPER_COUNT,
 };
 use clap::Command;
 use std::alloc::{AllocError, Global};
@@ -172,6 +172,7 @@ fn query_command<'a>(alloc: Global) -> Result<Command<'a>, AllocError>
     ensures { IfOk result (λ command. shape_of command ≡ query_shape) }
 {
     let arguments = vec![in alloc;
+        FILE.arg(alloc),
         output(alloc),
         EXPLAIN.arg(alloc),
         table(alloc),
@@ -267,7 +268,7 @@ fn select_command<'a>(alloc: Global) -> Result<Command<'a>, AllocError>
         output(alloc),
         OUTPUT2.arg(alloc),
         EXPLAIN.arg(alloc),
-        counted_table(alloc),
+        table(alloc),
         files(alloc),
     ]?;
     command_with_help(alloc, SELECT, help::SELECT, help::AFTER_SELECT).args(arguments)
@@ -281,7 +282,7 @@ fn profile_command<'a>(alloc: Global) -> Result<Command<'a>, AllocError>
         MIN_QUAL_CHAR.arg(alloc),
         output(alloc),
         EXPLAIN.arg(alloc),
-        counted_table(alloc),
+        table(alloc),
         files(alloc),
     ]?;
     command_with_help(alloc, PROFILE, help::PROFILE, help::AFTER_PROFILE).args(arguments)

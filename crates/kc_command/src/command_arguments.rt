@@ -4,7 +4,6 @@ ghost use Rattle.std.specs.Prelude.{◌≡◌, false};
 ghost use Rattle.clap.specs.Words.{rule_of};
 ghost use Rattle.kc_command.specs.Command.{
   assembly_argument,
-  counted_argument,
   file_argument,
   files_argument,
   first_argument,
@@ -48,18 +47,9 @@ pub(crate) fn file<'a>(alloc: Global) -> Arg<'a>
     one_argument(alloc, "file", "FILE", help)
 }
 
-/// TABLE, required: the table of a query.
+/// TABLE, required: the table of a query, a selection or a profile.
 pub(crate) fn table<'a>(alloc: Global) -> Arg<'a>
     ensures rule { rule_of result ≡ table_argument }
-    ensures own { result.global ≡ false }
-{
-    let help = "Table that `kcount count` wrote";
-    as_required(one_argument(alloc, "file", "TABLE", help))
-}
-
-/// TABLE, required: the table of a selection or of a profile.
-pub(crate) fn counted_table<'a>(alloc: Global) -> Arg<'a>
-    ensures rule { rule_of result ≡ counted_argument }
     ensures own { result.global ≡ false }
 {
     let help = "Table that `kcount count` wrote";
@@ -102,13 +92,13 @@ pub(crate) fn assembly<'a>(alloc: Global) -> Arg<'a>
     as_required(one_argument(alloc, "second", "ASSEMBLY", help))
 }
 
-/// WORD, at least once: the k-mers of a query.
+/// WORD, any number of times: the k-mers of a query. `has_no_words` returns whether there is neither one nor `--file`.
 pub(crate) fn words<'a>(alloc: Global) -> Arg<'a>
     ensures rule { rule_of result ≡ words_argument }
     ensures own { result.global ≡ false }
 {
     let help = "K-mers of the table's length, of the letters ACGT or acgt";
-    as_required(several_arguments(alloc, "word", "WORD", help))
+    several_arguments(alloc, "word", "WORD", help)
 }
 
 /// The option, also with a short name.

@@ -8,6 +8,7 @@ ghost use Rattle.kc_command.specs.Laws.{
   IntersectsTables,
   JudgesInOrder,
   KeepsLimits,
+  LooksUpWords,
   MergesTables,
   ProfilesRecords,
   ReadsTables,
@@ -24,6 +25,7 @@ pub fn command_lines()
     ensures files { CountsFiles }
     ensures listed { CountsListedWords }
     ensures tables { ReadsTables }
+    ensures looks_up { LooksUpWords }
     ensures merges { MergesTables }
     ensures intersects { IntersectsTables }
     ensures subtracts { SubtractsTables }

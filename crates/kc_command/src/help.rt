@@ -93,17 +93,19 @@ Writes the counts of k-mers that are looked up in a table.";
 
 /// At the end of the help of `query`.
 pub(crate) const AFTER_QUERY: &str = "\
-Writes a line `KMER COUNT` for each WORD, in the given order. The count of a
-k-mer that the table lacks is 0. With a table of canonical k-mers, KMER is the
-lesser of the WORD and its reverse complement. Nothing is written if a WORD is
-not a k-mer of the table's length.
+Writes a line `KMER COUNT` for each WORD, and then for each line of the --file,
+in the given order. WORD or --file must be given. The count of a k-mer that the
+table lacks is 0. With a table of canonical k-mers, KMER is the lesser of the
+k-mer and its reverse complement. Nothing is written if a WORD or a line is not
+a k-mer of the table's length; empty lines are skipped.
 
 Exit status: 0 on success, 1 on an error, 2 for an invalid command line. Errors
 are printed on standard error.
 
 Examples:
   kcount count -m 5 -C -o reads.kct reads.fq.gz
-  kcount query reads.kct ACGTA GATTA";
+  kcount query reads.kct ACGTA GATTA
+  kcount query --file kmers.txt -o counts.txt reads.kct";
 
 /// At the top of the help of `merge`.
 pub(crate) const MERGE: &str = "\

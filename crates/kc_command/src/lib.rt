@@ -6,8 +6,8 @@
 //! tables are combined, `compare_options` what is compared, `select_options` the rule of a selection, and
 //! `profile_options` that of a profile; `text_of` returns the text of an option, and `has_flag` whether a flag was
 //! given. The first option with a value outside its limits is returned as its `OptionName`, `pairs_refusal` returns why
-//! options of `select` conflict, and `has_too_many_tables` whether more tables are named than can be combined.
-//! `command_laws` has worked command lines.
+//! options of `select` conflict, `has_too_many_tables` whether more tables are named than can be combined, and
+//! `has_no_words` whether no k-mers are given to look up. `command_laws` has worked command lines.
 //!
 //! ```ignore
 //! let options = Options::new(k).with_print(Print::Dump).with_dump(Dump::in_columns());
@@ -27,6 +27,7 @@ mod option_table;
 mod pair_options;
 mod settings;
 mod settings_of_options;
+mod word_options;
 
 pub use combining_options::{
     filter_options, has_too_many_tables, intersect_options, subtract_options,
@@ -38,3 +39,4 @@ pub use settings::{Options, Print};
 pub use settings_of_options::{
     dump_options, has_flag, high_of, options, profile_options, select_options, text_of,
 };
+pub use word_options::has_no_words;

@@ -174,6 +174,14 @@ pub(crate) const ONLY: TextOption = TextOption {
         file [default: all k-mers]",
 };
 
+/// `--file`: the file with more k-mers that are looked up.
+pub(crate) const FILE: TextOption = TextOption {
+    name: "file",
+    value: "WORDS",
+    help: "Also look up the k-mers of this file, one a line, after{n}\
+        those of the command line",
+};
+
 /// `--take`: the count of a k-mer in an intersection.
 pub(crate) const TAKE: CheckedOption = CheckedOption {
     refused_as: OptionName::Take,

@@ -10,18 +10,22 @@ returns c =
     let have : HaveRules c.in_ok-arguments.arguments.items query_shape.rules =
     subst (λ arguments. HaveRules arguments query_shape.rules) (sym c.in_ok-arguments.ensures.items)
     ((
-      c.output.ensures.own,
-      c.output.ensures.rule,
+      c.arg.ensures.own,
+      c.arg.ensures.rule,
       (
-        c.arg.ensures.own,
-        c.arg.ensures.rule,
+        c.output.ensures.own,
+        c.output.ensures.rule,
         (
-          c.table.ensures.own,
-          c.table.ensures.rule,
+          c.arg-2.ensures.own,
+          c.arg-2.ensures.rule,
           (
-            c.words.ensures.own,
-            c.words.ensures.rule,
-            tt,
+            c.table.ensures.own,
+            c.table.ensures.rule,
+            (
+              c.words.ensures.own,
+              c.words.ensures.rule,
+              tt,
+            ),
           ),
         ),
       ),

@@ -43,8 +43,8 @@ returns c =
                           c.arg-10.ensures.own,
                           c.arg-10.ensures.rule,
                           (
-                            c.counted_table.ensures.own,
-                            c.counted_table.ensures.rule,
+                            c.table.ensures.own,
+                            c.table.ensures.rule,
                             (
                               c.files.ensures.own,
                               c.files.ensures.rule,

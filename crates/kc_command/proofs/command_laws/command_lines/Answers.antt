@@ -1,6 +1,6 @@
 use Rattle.std.proofs.Common.{refl}
 use Rattle.clap.proofs.OnLiterals.{clap_on_literals}
-use Rattle.kc_command.specs.Laws.{ComparesTables, CountsBothStrands, CountsFiles, CountsListedWords, FiltersTables, IntersectsTables, MergesTables, ProfilesRecords, ReadsTables, Refuses, SelectsPairs, SelectsReads, SubtractsTables}
+use Rattle.kc_command.specs.Laws.{ComparesTables, CountsBothStrands, CountsFiles, CountsListedWords, FiltersTables, IntersectsTables, LooksUpWords, MergesTables, ProfilesRecords, ReadsTables, Refuses, SelectsPairs, SelectsReads, SubtractsTables}
 use Rattle.kc_command.proofs.command_laws.command_lines.Goals as goal
 
 counts_both_strands : CountsBothStrands
@@ -56,8 +56,38 @@ reads_tables = record {
   file = refl;
   second_file = refl;
   high = refl;
+}
+
+looks_up_words : LooksUpWords
+unfolding clap_on_literals
+looks_up_words = record {
+  taken = refl;
+  command = refl;
+  list = refl;
+  table = refl;
   no_word = refl;
+  list_is_enough = refl;
+  both_taken = refl;
+  table_before = refl;
+  word_before = refl;
+  list_behind = refl;
+  both_are_enough = refl;
+  words_taken = refl;
   words = refl;
+  table_of_words = refl;
+  no_list = refl;
+  words_are_enough = refl;
+  one_word_is_enough = refl;
+  empty_word_is_enough = refl;
+  nothing_taken = refl;
+  nothing = refl;
+  output = refl;
+  empty_name_taken = refl;
+  empty_name = refl;
+  no_name = refl;
+  twice = refl;
+  no_table = refl;
+  of_dump = refl;
 }
 
 merges_tables : MergesTables
@@ -265,6 +295,9 @@ returns-clause-listed c = counts_listed_words
 
 pub returns-clause-tables : goal.returns-clause-tables
 returns-clause-tables c = reads_tables
+
+pub returns-clause-looks_up : goal.returns-clause-looks_up
+returns-clause-looks_up c = looks_up_words
 
 pub returns-clause-merges : goal.returns-clause-merges
 returns-clause-merges c = merges_tables
