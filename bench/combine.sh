@@ -1,7 +1,8 @@
 #!/bin/bash
 # Tables of ROWS rows (14 million) that are combined and written to a file: `kcount merge` of two and of eight tables, `intersect` and
-# `subtract` of two, beside `kmc_tools` with a sorted dump, and beside `jellyfish merge` of two with `dump -c` and `sort`, in one run, each
-# once a round. The targets are 0.6 of KMC's time and 0.3 of Jellyfish's.
+# `subtract` of two, beside `kmc_tools` with a sorted dump, and beside `jellyfish merge` of two with `dump -c` and `sort`; and `compare` of
+# two, beside what gives its numbers by `kmc_tools`, three times `simple`; all in one run, each once a round. The targets are 0.6 of KMC's
+# time (0.4 of it for `compare`), and 0.3 of Jellyfish's.
 #   bench/combine.sh
 # The tables are of words of length 21 on both strands, of two random sequences each, of which each shares one with the table before it. They
 # are not measured. What the tools write is compared. (Debian's `kmc_tools complex` stops with an error, so eight tables have no peer.)
@@ -58,8 +59,15 @@ intersect_kcount() { "$kcount" intersect -o "$work/out.kct" "$work"/[12].kct; }
 intersect_kmc() { simple_kmc intersect "$work/out.kmc" -cs$most -ocmin; }
 subtract_kcount() { "$kcount" subtract -o "$work/out.kct" "$work"/[12].kct; }
 subtract_kmc() { simple_kmc kmers_subtract "$work/out.kmc" -cs$most; }
+compare_kcount() { "$kcount" compare -o "$work/compared" "$work"/[12].kct; }
+# the words of both, those of one alone, and those of both with a count of at least 2 in the first
+compare_kmc() {
+    kmc_tools -t1 simple "$work/1.kmc" "$work/2.kmc" intersect "$work/out.kmc" -ocleft
+    kmc_tools -t1 simple "$work/2.kmc" "$work/1.kmc" kmers_subtract "$work/out.kmc"
+    kmc_tools -t1 simple "$work/1.kmc" -ci2 "$work/2.kmc" intersect "$work/out.kmc" -ocleft
+}
 export kcount k most work
-export -f dump_kmc simple_kmc {merge,intersect,subtract}_{kcount,kmc} merge8_kcount merge_jellyfish
+export -f dump_kmc simple_kmc {merge,intersect,subtract,compare}_{kcount,kmc} merge8_kcount merge_jellyfish
 
 # shellcheck disable=SC2086
 tools=$(with_peers ${PEERS:-jellyfish kmc})
@@ -67,13 +75,14 @@ tools=$(with_peers ${PEERS:-jellyfish kmc})
 prepared make $tools
 echo "| Tool | What | Wall | Processor | Peak | kcount's wall to it | Target |"
 echo "|---|---|---|---|---|---|---|"
-for what in merge merge8 intersect subtract; do
+for what in merge merge8 intersect subtract compare; do
     case $what in merge) peers=$tools ;; merge8) peers=kcount ;; *) peers=${tools/ jellyfish/} ;; esac
     # shellcheck disable=SC2086
     in_rounds $what $peers
     for tool in $peers; do
-        case $tool in jellyfish) target=0.3 ;; *) target=0.6 ;; esac
+        case $what-$tool in *-jellyfish) target=0.3 ;; compare-*) target=0.4 ;; *) target=0.6 ;; esac
         tool_row $what "$tool" $what $target
+        [ $what != compare ] || continue
         [ "$tool" != kcount ] || "$kcount" dump -c -o "$work/text.kcount" "$work/out.kct"
         tr '\t' ' ' < "$work/text.$tool" | cmp -s - "$work/text.kcount" || fail "what $tool writes for $what is another"
     done

@@ -67,6 +67,7 @@ wants 0 'CCC 2' '' old "${count[@]}" two.fq two.fq
 wants 1 '' 'kcount: 2: bad base, source 2, line 2' old "${count[@]}" one.fa bad.fa two.fq
 wants 0 "$one" '' old dump -c one.kct
 wants 0 'CGT 1' '' old query one.kct cgt
+wants 0 $'CGT 1\nGTA 1' '' old query --file <(echo GTA) one.kct cgt
 wants 0 "$both" '' old merge one.kct two.kct
 # (a pipe can be read only once, so tables are kept in memory then)
 wants 0 "$both" '' old merge <(printf '%s\n' "$table") two.kct
@@ -96,6 +97,7 @@ wants 0 '' '' "$one" "${count[@]}" -o out one.fa
 wants 0 '' '' "$table" count -m 3 -o out one.fa
 wants 0 '' '' "$one" dump -c -o out one.kct
 wants 0 '' '' 'ACG 1' query -o out one.kct ACG
+wants 0 '' '' $'ACG 1\nGTA 1' query -o out --file <(echo GTA) one.kct ACG
 wants 0 '' '' "$both" merge -o out two.kct one.kct
 wants 0 '' '' $'KCT 2 3 s o 33 2\nCCC 1\nEND 1 1' count -m 3 --only two.fq -o out one.fa two.fq
 wants 0 '' '' $'>r1\nACGTA' "${select[@]}" -o out one.kct one.fa two.fq
@@ -154,6 +156,10 @@ wants 1 '' 'kcount: 54: cannot open missing' old "${count[@]}" missing
 wants 1 '' 'kcount: 54: cannot open missing' old "${count[@]}" -o out one.fa missing lost bad.fa
 wants 1 '' 'kcount: 54: cannot open missing' old stats -o out missing
 wants 1 '' 'kcount: 54: cannot open missing' old query -o out missing ACG
+wants 1 '' 'kcount: 54: cannot open missing' old query -o out --file missing lost ACG
+wants 1 '' 'kcount: 54: cannot open missing' old query -o out --file one.kct missing ACG
+wants 1 '' 'kcount: 45: table read failed' old query -o out --file a-directory one.fa ACG
+wants 1 '' 'kcount: 52: bad word 2' old query -o out --file <(echo CG) one.kct ACG
 wants 1 '' 'kcount: 54: cannot open ' old "${count[@]}" ''
 wants 1 '' 'kcount: 54: cannot open missing' old merge -o out missing lost
 wants 1 '' 'kcount: 54: cannot open missing' old merge -o out one.kct missing

@@ -72,6 +72,8 @@ refuse_growths 'a histogram of a table' $'1 1\n2 1\n' 46 /dev/null histo "$work/
 refuse_growths 'statistics of a table' $'Unique:    1\nDistinct:  2\nTotal:     3\nMax_count: 2\n' 46 /dev/null \
     stats "$work/first.kct"
 refuse_growths 'a query' $'ACG 2\nAAA 0\n' 46 /dev/null query "$work/first.kct" cgt AAA
+printf 'AAA\n\nTAC\n' > "$work/words"
+refuse_growths 'a query of a list' $'ACG 2\nAAA 0\nGTA 1\n' 46 /dev/null query --file "$work/words" "$work/first.kct" cgt
 refuse_growths 'a selection' $'@a\nACGTA\n+\nIIIII\n@b\nACGTN\n+\nII"II\n' '8 46' "$work/reads.fq" \
     select --min-share 60 "$work/first.kct"
 refuse_growths 'a selection of pairs' $'@a\nACGTA\n+\nIIIII\n@a\nACGTA\n+\nIIIII\n@b\nACGTN\n+\nII"II\n@b\nACGTN\n+\nII"II\n' '8 46' /dev/null \

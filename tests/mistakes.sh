@@ -41,6 +41,7 @@ printf '>p1\nMKVLEDFW\n' > protein.fa
 printf '>r1\nacgta\n' > lower.fa
 printf '@r1\r\nACGTACGT\r\n+\r\nIIIIIIII\r\n' > crlf.fq
 printf '>w1\nACG\n' > one.fa
+printf 'CGT\n\nACGT\n' > words.txt
 { echo '>r1'; for _ in $(seq 300); do printf ACGT; done; echo; } > thousand.fa
 : > empty.fq
 "$kcount" count -m 3 -o three.kct reads.fa
@@ -153,6 +154,13 @@ explains 1 '61: tables do not match' 'three.kct and four.kct have k-mers of leng
 explains 1 '61: tables do not match' 'three.kct and both.kct were counted in different ways: with and without -C or --only, or with another --min-qual-char' merge three.kct both.kct
 explains 1 '52: bad word 1' 'ACGT is no k-mer of this table, whose k-mers have a length of 3 and are of A, C, G and T alone' query three.kct ACGT
 explains 1 '52: bad word 2' 'ACN is no k-mer of this table, whose k-mers have a length of 3 and are of A, C, G and T alone' query three.kct ACG ACN
+# lists of k-mers
+explains 1 '52: bad word 3' 'k-mer 2 of words.txt is no k-mer of this table, whose k-mers have a length of 3 and are of A, C, G and T alone' query --file words.txt three.kct ACG
+explains 1 '52: bad word 1' 'ACN is no k-mer of this table, whose k-mers have a length of 3 and are of A, C, G and T alone' query --file words.txt three.kct ACN
+explains 1 '45: table read failed' "folder can't be read: it may be a folder, or a disk or the network may have failed" query --file folder three.kct
+explains 1 '45: table read failed' "folder can't be read: it may be a folder, or a disk or the network may have failed" query --file words.txt folder
+explains 1 '72: gzip cut short, source 0' 'cut.kct.gz is gzip that ends too early: its copy is not whole, get the file again' query --file cut.kct.gz more.kct.gz
+explains 1 '71: broken gzip, source 1' 'more.kct.gz is damaged gzip, or other bytes follow the gzip: get the file again' query --file three.kct more.kct.gz
 # reads that are no pairs
 unpaired='81: reads are no pair, record'
 explains 1 "$unpaired 1" "reads.fa and one.fa: the titles of record 1 do not match, or one file has no such record; pair them first: seqkit pair -1 reads.fa -2 one.fa" select --pairs three.kct reads.fa one.fa

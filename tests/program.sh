@@ -116,8 +116,10 @@ refuses $'the argument \'--only <FILE>\' cannot be used multiple times\n'"$usage
 refuses $'the argument \'--mer-len <K>\' cannot be used multiple times\n'"$usage_of_count" count -m 3 -m 4
 refuses $'unexpected argument \'--frob\' found\n\n  tip: to pass \'--frob\' as a value, use \'-- --frob\'\n'"$usage_of_count" count --frob
 refuses $'unexpected argument \'b\' found\n\nUsage: kcount stats [OPTIONS] [FILE]\n' stats a b
-refuses $'the following required arguments were not provided:\n  <TABLE>\n  <WORD>...\n\nUsage: kcount query <TABLE> <WORD>...\n' query
-refuses $'the following required arguments were not provided:\n  <WORD>...\n\nUsage: kcount query <TABLE> <WORD>...\n' query two.kct
+refuses $'the following required arguments were not provided:\n  <TABLE>\n\nUsage: kcount query <TABLE> [WORD]...\n' query
+refuses $'the following required arguments were not provided:\n  <TABLE>\n\nUsage: kcount query <TABLE> [WORD]...\n' query --file words
+refuses $'a query needs a WORD, or a list of words: --file <WORDS>\n\nUsage: kcount query [OPTIONS] <TABLE> [WORD]...\n' query two.kct
+refuses $'a query needs a WORD, or a list of words: --file <WORDS>\n\nUsage: kcount query [OPTIONS] <TABLE> [WORD]...\n' query missing
 refuses $'the following required arguments were not provided:\n  <FIRST>\n  <SECOND>...\n'"$usage_of_merge" merge
 refuses $'the following required arguments were not provided:\n  <SECOND>...\n'"$usage_of_merge" merge two.kct
 for command in merge intersect subtract; do
@@ -184,6 +186,19 @@ mapfile -t words < <(for _ in $(seq 50); do printf 'TAC\naaa\n'; done)
 wants 0 $'>r1\nACGTAACG\n' '' "$reads" through_a_pipe select --min-count 0 two.kct
 wants 0 "$reads" '' "$reads" kcount select --min-share 66 older.kct
 wants 0 "$(for _ in $(seq 50); do printf 'GTA 1\nAAA 0\n'; done)"$'\n' '' '' kcount query two.kct "${words[@]}"
+
+# A query looks up the words of a list after those of the command line. Lines end as on Unix or as on Windows, or with
+# the list, which may be gzip, and blank lines are none.
+printf 'aaa\r\n\n\r\nTAC' > words
+gzip -c words > words.gz
+: > empty
+for list in words words.gz; do
+    wants 0 $'ACG 2\nAAA 0\nGTA 1\n' '' '' kcount query --file "$list" two.kct CGT
+    wants 0 $'AAA 0\nGTA 1\n' '' '' kcount query two.kct --file "$list"
+    wants 0 $'AAA 0\nGTA 1\n' '' "$table" of_a_file "$list" query two.kct --file /dev/stdin
+done
+wants 0 '' '' '' kcount query --file empty two.kct
+wants 0 $'GTA 1\n' '' '' kcount query --file empty two.kct gta
 
 # The help tells a range of an option, the ends of which are taken and give these outputs; one less and one more are
 # refused.
@@ -844,6 +859,23 @@ fault 1 '52: bad word 1' '' kcount query two.kct ACGT
 fault 1 '52: bad word 2' '' kcount query two.kct ACG ACN AC
 fault 1 '52: bad word 3' '' kcount query two.kct ACG gta ''
 fault 1 '52: bad word 101' '' kcount query two.kct "${words[@]}" 'A G'
+# The words of a list follow those of the command line.
+bad_list() {
+    printf '%s' "$2" > list
+    fault 1 "52: bad word $1" '' kcount query --file list two.kct ACG gta
+}
+bad_list 3 $'AC\nACG\n'
+bad_list 4 $'ACG\r\n\nACGT\nAC\n'
+bad_list 4 $'ACG\nA\xffC\n'
+bad_list 3 $' ACG\n'
+bad_list 5 $'ACG\nACG\nACG\r\r\n'
+# The list is read before the table, and the table before words are judged.
+fault 1 '45: table read failed' '' kcount query --file a-directory no.kct N
+fault 1 '43: bad end' '' kcount query --file list no.kct N
+head -c 20 words.gz > cut.gz
+{ cat words.gz; echo; } > more.gz
+fault 1 '72: gzip cut short, source 0' '' kcount query --file cut.gz no.kct N
+fault 1 '71: broken gzip, source 0' '' kcount query --file more.gz no.kct N
 
 # An output that takes nothing is told, and errors that take nothing change no status.
 if [ -c /dev/full ]; then
