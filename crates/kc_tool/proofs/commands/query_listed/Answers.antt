@@ -1,4 +1,4 @@
-use Rattle.std.proofs.Common.{Err, ap₂, get_or, inl, inr, max, refl, set, sym, arith, ◌-◌, ◌∙◌}
+use Rattle.std.proofs.Common.{Err, ap₂, get_or, inl, inr, length, max, refl, set, sym, arith, ◌≡◌, ◌-◌, ◌≤◌, ◌∙◌}
 use Rattle.std.proofs.lemmas.List.{length-set}
 use Rattle.std.proofs.lemmas.Result.{err_from_is_err_and}
 use Rattle.kc_tool.specs.Commands.{QueriesBy}
@@ -9,7 +9,7 @@ pub returns-in_err-all : goal.returns-in_err-all
 returns-in_err-all g c =
     let seen = g.R.Source.seen in
     let seen_file = g.F.Source.seen in
-    let some = let two = c.requires.two in omega (arith, two) in
+    let some : 1 ≤ length c.args.sources.now.files.now = let two = c.requires.two in omega (arith, two) in
     let p = err_from_is_err_and c.from_residual.result c.from_residual.ensures.1 in
     let later = c.all_words.new.list in
     let given = c.args.sources.now in
@@ -29,16 +29,16 @@ pub query_table-requires : goal.query_table-requires
 query_table-requires g c =
     let given = c.args.sources.now in
     let file = get_or given.files.now 0 c.index-files-0.result in
-    let first = record { name = file.name; source = c.all_words.new.list } in
-    let long = length-set given.files.now 0 first ∙ c.requires.two in
-    sym (counted g.F.Source.seen (g.R.Source.seen given.input.now) (set given.files.now 0 first) given.own 1
+    let files = set given.files.now 0 (record { name = file.name; source = c.all_words.new.list }) in
+    let long : length files ≡ 2 = length-set given.files.now 0 _ ∙ c.requires.two in
+    sym (counted g.F.Source.seen (g.R.Source.seen given.input.now) files given.own 1
     (sym (ap₂ (λ n own. max (n - own) 1) long c.requires.own)))
 
 pub returns : goal.returns
 returns g c =
     let seen = g.R.Source.seen in
     let seen_file = g.F.Source.seen in
-    let some = let two = c.requires.two in omega (arith, two) in
+    let some : 1 ≤ length c.args.sources.now.files.now = let two = c.requires.two in omega (arith, two) in
     let later = c.all_words.new.list in
     let given = c.args.sources.now in
     let file = get_or given.files.now 0 c.index-files-0.result in
