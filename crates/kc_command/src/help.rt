@@ -93,11 +93,11 @@ Writes the counts of k-mers that are looked up in a table.";
 
 /// At the end of the help of `query`.
 pub(crate) const AFTER_QUERY: &str = "\
-Writes a line `KMER COUNT` for each WORD, and then for each line of the --file,
-in the given order. WORD or --file must be given. The count of a k-mer that the
-table lacks is 0. With a table of canonical k-mers, KMER is the lesser of the
-k-mer and its reverse complement. Nothing is written if a WORD or a line is not
-a k-mer of the table's length; empty lines are skipped.
+Writes a line `KMER COUNT` for each WORD, and then for each k-mer of --file, in
+the given order; at least one of the two is required. The count of a k-mer that
+the table lacks is 0. With a table of canonical k-mers, KMER is the lesser of
+the k-mer and its reverse complement. Blank lines of the file are skipped.
+Nothing is written if a word is not a k-mer of the table's length.
 
 Exit status: 0 on success, 1 on an error, 2 for an invalid command line. Errors
 are printed on standard error.

@@ -151,13 +151,13 @@ pub(crate) const UPPER_COUNT: NumberOption = NumberOption {
     most: kc_report::MAX_COUNT,
 };
 
-/// `--high`: the greatest count with a line of its own in a histogram.
+/// `--high`: the greatest count with a line of its own in a histogram or a spectrum of copy numbers.
 pub(crate) const HIGH: NumberOption = NumberOption {
     option: CheckedOption {
         refused_as: OptionName::High,
         name: "high",
         value: "N",
-        help: "Greatest count with a line of its own in a histogram,{n}\
+        help: "Greatest count with a line of its own,{n}\
             1 to 10000000 [default: 10000]",
         range: "a number from 1 to 10000000",
     },

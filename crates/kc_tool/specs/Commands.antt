@@ -28,8 +28,9 @@ use Rattle.kc_combine.specs.declared.placed_fault.PlacedFault.{PlacedFault}
 use Rattle.kc_combine.specs.declared.written_tables.CombineFault.{CombineFault}
 use Rattle.kc_combine.specs.declared.written_tables.Totals.{Totals}
 use Rattle.kc_command.specs.Arguments.{AsksFor, AsksForDump, first_bad, first_bad_of_dump, first_bad_of_histo}
-use Rattle.kc_command.specs.Arguments.{has_too_many_tables, tables_of, AsksForFilter, AsksForIntersection, AsksForSelection}
-use Rattle.kc_command.specs.Arguments.{AsksForSubtraction, IsFlag, first_bad_of_intersect, has_no_words}
+use Rattle.kc_command.specs.Arguments.{tables_of, AsksForFilter, AsksForIntersection, AsksForSelection}
+use Rattle.kc_command.specs.Arguments.{AsksForSubtraction, IsFlag, first_bad_of_intersect}
+use Rattle.kc_command.specs.Arguments.{has_no_words, has_too_many_tables}
 use Rattle.kc_command.specs.Arguments.{AsksForPairs, AsksForProfile, first_bad_of_profile, first_bad_of_select}
 use Rattle.kc_command.specs.Arguments.{AsksForMatrix, first_bad_of_compare, first_table_of, pairs_refusal}
 use Rattle.kc_command.specs.Options.{high_of, only_of, solid_of, word_list_of}
@@ -516,8 +517,8 @@ first_refused verb.Select rows = first_bad_of_select rows
 first_refused verb.Profile rows = first_bad_of_profile rows
 first_refused verb rows = None
 
--- the arguments of a command don't conflict: the options of a selection fit together, there are at most 64 tables, and a
--- query has words
+-- the arguments of a command don't conflict: the options of a selection fit together, there are at most 64 tables, and
+-- a query has words
 abbrev pub GoTogether : Verb → List Row → Type 0
 GoTogether verb.Query rows = has_no_words rows ≡ false
 GoTogether verb.Select rows = pairs_refusal rows ≡ None

@@ -520,7 +520,7 @@ fn query_table<H: Threads, R: Source, F: Source, W: Sink, P: Progress>(
     Ok(Told::Nothing)
 }
 
-// Reads the words of the list, which is the first file, and the table of the only source, and writes the counts of these
+// Reads the list of words, which is the first file, and the table of the only source, and writes the counts of these
 // words of the command line, and then of those of the list. Condition: the list and the source are two files.
 fn query_listed<H: Threads, R: Source, F: Source, W: Sink, P: Progress>(
     means: &Means<'_, H, P>,
