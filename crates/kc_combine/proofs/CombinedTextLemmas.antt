@@ -23,7 +23,7 @@ use Rattle.kc_combine.specs.Whences.{Whence}
 use Rattle.kc_combine.specs.declared.placed_fault.PlacedFault.{PlacedFault}
 use Rattle.kc_combine.specs.declared.written_tables.CombineFault.{CombineFault}
 use Rattle.kc_combine.specs.declared.written_tables.CombineFault.TheVariants.{Table, Unlike, TooLarge, Write, Memory}
-use Rattle.kc_combine.specs.declared.table_walk.WalkFault.TheVariants as walking
+use Rattle.kc_combine.specs.declared.combined_rows.WalkFault.TheVariants as walking
 use Rattle.kc_combine.specs.Walks.{GoesOn, StopsAt}
 use Rattle.kc_combine.specs.Aheads.{AreWhole, FailsAt, HasTaken, HaveLength, HaveTaken, whences_of}
 use Rattle.kc_combine.specs.WrittenTables.{FailsToWrite, HasTakenFront, HasWrittenTable, IsResultOf, StandAtStart, no_rows}

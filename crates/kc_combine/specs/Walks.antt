@@ -9,8 +9,8 @@ use Rattle.kc_combine.specs.Aheads.{AreWhole, BeginAt, FailsAt, HaveLength, Have
 use Rattle.kc_combine.specs.Combined.{AreCombinedBelow, IsTooLarge}
 use Rattle.kc_combine.specs.Compared.{counts_below, counts_of_words}
 use Rattle.kc_combine.specs.Whences.{Whence}
-use Rattle.kc_combine.specs.declared.table_walk.WalkFault.{WalkFault}
-use Rattle.kc_combine.specs.declared.table_walk.WalkFault.TheVariants.{Table, TooLarge}
+use Rattle.kc_combine.specs.declared.combined_rows.WalkFault.{WalkFault}
+use Rattle.kc_combine.specs.declared.combined_rows.WalkFault.TheVariants.{Table, TooLarge}
 
 -- the rows below the bound were taken from the tables, and these rows combine them
 pub record IsWalking {R F : Type 0} {G : Ghosts R F} (Gave Whole : R → List Row → Type 0) (rule : List ℕ → ℕ)

@@ -8,7 +8,7 @@ use Rattle.kc_report.specs.declared.header.Header.{Header}
 use Rattle.kc_report.specs.RowsWritten.{HasPutRows, WritingStand, front_of, text_of}
 use Rattle.kc_combine.specs.declared.ahead.Ahead.{Ahead}
 use Rattle.kc_combine.specs.declared.gives_rows.GivesRows.{Ghosts}
-use Rattle.kc_combine.specs.declared.table_walk.WalkFault.TheVariants as walking
+use Rattle.kc_combine.specs.declared.combined_rows.WalkFault.TheVariants as walking
 use Rattle.kc_combine.specs.declared.written_tables.CombineFault.{CombineFault}
 use Rattle.kc_combine.specs.declared.written_tables.CombineFault.TheVariants.{Table, Unlike, TooLarge, Write, Memory}
 use Rattle.kc_combine.specs.declared.written_tables.Totals.{Totals}

@@ -7,8 +7,8 @@ ghost use Rattle.kc_combine.specs.VisitedTexts.{AreVisited, VisitsNoTables};
 use crate::loaded_tables::{LoadedTable, begin_each, header_of_loaded};
 use crate::placed_fault::PlacedFault;
 use crate::visited_texts::OF_SAME_WORDS;
+use crate::visited_words::visit_words;
 use crate::visits_words::VisitsWords;
-use crate::word_walk::visit_words;
 use crate::written_tables::{CombineFault, zero_counts};
 use std::alloc::Global;
 

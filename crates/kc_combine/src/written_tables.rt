@@ -11,10 +11,10 @@ ghost use Rattle.kc_combine.specs.Walks.{GoesOn, IsWalking, left_from};
 ghost use Rattle.kc_combine.specs.WrittenTables.{FailsToWrite, HasWrittenTable, PutsNext, StandAtStart, StopsBehind};
 
 use crate::ahead::Ahead;
+use crate::combined_rows::{WalkFault, next_row};
 use crate::combines::Combines;
 use crate::counts_of_word::MAX_COUNT;
 use crate::gives_rows::GivesRows;
-use crate::table_walk::{WalkFault, next_row};
 use kc_io::Sink;
 use kc_report::{Header, TableWriting};
 use kc_tally::Row;

@@ -1,28 +1,22 @@
 //! The table text of a tally, which contains all of it.
-ghost use Rattle.std.specs.Prelude.{◌≡◌, ◌+◌, ◌≤◌, ◌∷◌, ◌++◌, length, option_map, IfSome, IfErr};
+ghost use Rattle.std.specs.Prelude.{◌≡◌, ◌+◌, ◌≤◌, ◌++◌, length, option_map, IfSome, IfErr};
 ghost use Rattle.kc_io.specs.Sinks.{Writes};
 ghost use Rattle.kc_report.specs.declared.report_faults.ReportFault.TheVariants.{Write};
-ghost use Rattle.kc_report.specs.Bytes.{space};
-ghost use Rattle.kc_report.specs.Table.{version, kind, selection, origin_text, header_line, IsOrigin};
-ghost use Rattle.kc_report.specs.Table.{end_line, ended, table_text};
+ghost use Rattle.kc_report.specs.Table.{IsOrigin, end_line, ended, table_text};
 
 use crate::dump::Dump;
 use crate::header::Header;
 use crate::origin::Origin;
 use crate::report_faults::ReportFault;
 use crate::row_pieces::hand_over_in_parallel;
+use crate::table_header::push_header;
 use crate::table_writing::TableWriting;
 use kc_io::{BLOCK_SIZE, Block, Failed, NUMBER_SIZE, Sink, write_all, write_out};
-use kc_kmer::K;
 use kc_tally::Tally;
 use std::alloc::Global;
 use std::thread::Threads;
 
-// The most bytes of an origin, of a header and of an end line, the last two with their line ends.
-const ORIGIN_SIZE: usize = 2 + 1 + NUMBER_SIZE + 1 + NUMBER_SIZE;
-
-pub(crate) const HEADER_SIZE: usize = 6 + NUMBER_SIZE + 2 + ORIGIN_SIZE + 1;
-
+// The most bytes of an end line, with its line end.
 pub(crate) const END_SIZE: usize = 4 + NUMBER_SIZE + 1 + NUMBER_SIZE + 1;
 
 /// Writes the table text of a tally, from which `read_table` makes the same tally and the same origin again: version 2
@@ -109,63 +103,6 @@ fn table_by_pieces<W: Sink, H: Threads + Sync>(
     block.clear();
     push_end(&mut block, distinct, total);
     write_out(writer, block.as_slice())
-}
-
-// Appends the header to the block.
-pub(crate) fn push_header(block: &mut Block, k: K, both: bool, origin: Option<Origin>)
-    requires room { length block.old + HEADER_SIZE ≤ BLOCK_SIZE }
-    ensures { block.new ≡ block.old ++ ended (header_line k both origin) }
-{
-    block.push(version_bytes(origin));
-    block.push_number(k.get() as u64);
-    block.push(kind_bytes(both));
-    push_origin(block, origin);
-    block.push(b"\n");
-}
-
-// The start of a header, before the length of the words.
-fn version_bytes(origin: Option<Origin>) -> &'static [u8]
-    ensures bytes { result.now ≡ version origin }
-    ensures size { length result.now ≡ 6 }
-{
-    match origin {
-        None => b"KCT 1 ",
-        Some(_) => b"KCT 2 ",
-    }
-}
-
-// The part of a header after the length of the words and before an origin.
-fn kind_bytes(both: bool) -> &'static [u8]
-    ensures bytes { result.now ≡ space ∷ kind both }
-    ensures size { length result.now ≡ 2 }
-{
-    if both { b" c" } else { b" s" }
-}
-
-// Appends the fields of an origin to the block, if there is one.
-fn push_origin(block: &mut Block, origin: Option<Origin>)
-    requires room { length block.old + ORIGIN_SIZE ≤ BLOCK_SIZE }
-    ensures text { block.new ≡ block.old ++ origin_text origin }
-    ensures size { length block.new ≤ length block.old + ORIGIN_SIZE }
-{
-    match origin {
-        None => {}
-        Some(origin) => {
-            block.push(selection_bytes(origin.listed));
-            block.push(b" ");
-            block.push_number(origin.floor as u64);
-            block.push(b" ");
-            block.push_number(origin.reads);
-        }
-    }
-}
-
-// The first field of an origin.
-fn selection_bytes(listed: bool) -> &'static [u8]
-    ensures bytes { result.now ≡ space ∷ selection listed }
-    ensures size { length result.now ≡ 2 }
-{
-    if listed { b" o" } else { b" a" }
 }
 
 // Appends the end line of a table with so many rows and this sum of their counts to the block.

@@ -8,7 +8,8 @@ ghost use Rattle.kc_report.specs.RowsWritten.{HasPutRows, front_of, text_of};
 
 use crate::dump::{ROW_SIZE, push_columns};
 use crate::header::Header;
-use crate::table::{END_SIZE, push_end, push_header};
+use crate::table::{END_SIZE, push_end};
+use crate::table_header::push_header;
 use kc_io::{Block, Failed, Sink, write_out};
 use kc_kmer::K;
 use kc_tally::Row;

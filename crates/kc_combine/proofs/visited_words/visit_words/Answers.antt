@@ -4,7 +4,7 @@ use Rattle.kc_combine.specs.Aheads.{heads_of}
 use Rattle.kc_combine.specs.WrittenTables.{no_rows}
 use Rattle.kc_combine.proofs.WalkLemmas.{fewer_left, least_begins}
 use Rattle.kc_combine.proofs.WordWalkLemmas.{visits_all, visits_from_start, visits_next}
-use Rattle.kc_combine.proofs.word_walk.visit_words.Goals as goal
+use Rattle.kc_combine.proofs.visited_words.visit_words.Goals as goal
 
 pub words-init : goal.words-init
 words-init g c = record {

@@ -1,7 +1,7 @@
 use Rattle.std.proofs.Common.{◌≡◌, All, None, arith, subst, sym, ◌∙◌}
 use Rattle.kc_combine.specs.Aheads.{heads_of}
 use Rattle.kc_combine.proofs.WalkLemmas.{fewer_left, fits_least, gives_none, gives_row, least_begins, stops_too_large}
-use Rattle.kc_combine.proofs.table_walk.next_row.Goals as goal
+use Rattle.kc_combine.proofs.combined_rows.next_row.Goals as goal
 
 pub words-smaller : goal.words-smaller
 words-smaller g c =
