@@ -1,5 +1,6 @@
 //! The header of a table text: written, and judged when a table is read.
-ghost use Rattle.std.specs.Prelude.{◌≡◌, ◌≢◌, ◌↔◌, ◌+◌, ◌≤◌, ◌∷◌, ◌++◌, ℕ, Bool, IsTrue, Option, IfSome, IfNone, length};
+ghost use Rattle.std.specs.Prelude.{◌≡◌, ◌≢◌, ◌↔◌, ◌+◌, ◌≤◌, ◌∷◌, ◌++◌, ℕ, Bool, IsTrue, Option, IfSome, IfNone};
+ghost use Rattle.std.specs.Prelude.{length};
 ghost use Rattle.kc_report.specs.declared.origin.Origin.{Origin};
 ghost use Rattle.kc_report.specs.Bytes.{space};
 ghost use Rattle.kc_report.specs.Table.{MaySay, ended, header_line, kind, origin_text, selection, version};

@@ -12,8 +12,8 @@ use memchr::memchr;
 use std::alloc::{AllocError, Global};
 
 /// Takes all bytes of the source, a list of words, and appends these in order: its lines, without blank ones. A line
-/// ends with a line feed, before which there may be a carriage return. What is no UTF-8 in a line is replaced by U+FFFD,
-/// which no k-mer has. Gzip is decompressed: then the text and the limit are those of the decompressed bytes.
+/// ends with a line feed, before which there may be a carriage return. What is no UTF-8 in a line is replaced by
+/// U+FFFD, which no k-mer has. Gzip is decompressed: then the text and the limit are those of the decompressed bytes.
 ///
 /// # Errors
 /// `TableTooLong` if the text is longer than `limit` bytes, `TableRead` if the source failed, `BrokenGzip` if its gzip
