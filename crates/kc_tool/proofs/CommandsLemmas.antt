@@ -29,7 +29,7 @@ use Rattle.kc_tool.specs.declared.told.Told.{Told}
 use Rattle.kc_tool.specs.declared.told.Told.TheVariants as says
 use Rattle.kc_tool.specs.Commands.{Answers, Does, HasFilesFor, IsTallyFor, behind_list, given_of, sources_in}
 use Rattle.kc_tool.specs.Commands.{AreFilesOf, AsksForTask, DoesApart, DoesTaskApart, DoesTaskInto, EndsSo, GoTogether, IsRefused, IsRefusedOption, KeepsInput, LacksOutput, LacksSecondFile, WritesTwo, behind_table, second_of}
-use Rattle.kc_tool.specs.Commands.{named_table, AsksForText, DerivesFiles, HasTablesFor, OpensOnce, Surroundings, files_of, sources_from, first_refused, opened_by, stage_after, stage_before}
+use Rattle.kc_tool.specs.Commands.{QueriesAll, QueriesBy, QueryWords, named_table, AsksForText, DerivesFiles, HasTablesFor, OpensOnce, Surroundings, files_of, sources_from, first_refused, opened_by, stage_after, stage_before}
 use Rattle.kc_tool.specs.declared.named_sources.NamedSource.{NamedSource}
 use Rattle.kc_tool.specs.declared.tool_faults.ToolFault.{ToolFault}
 use Rattle.kc_tool.specs.declared.tool_faults.ToolFault.TheVariants.{Fastx, BadHeader, BadRow, BadEnd, TableTooLong, TableRead, Memory, BadOption, BadWord, Write, Run, OpenFailed, Unlike, TooLarge, BrokenTable, ShortTable, Unpaired}
@@ -842,3 +842,9 @@ not_into {Lacks} {sources} {input} {asked} {mid} {asked_after} tried fault opens
   why = why;
   log = back ∙ ap (λ v. v ++ given_back sources) opens;
 }
+
+-- All words of a query with a list were queried.
+pub queried : (words : QueryWords) (old new : Stage) (outcome : Result Told ToolFault)
+    → QueriesAll words old new outcome → QueriesBy words old new outcome
+queried words old new (Ok told) h = h
+queried words old new (Err fault) h = inl h

@@ -407,14 +407,20 @@ DoesByTally task old new (Err fault) = (new.output ≡ old.output) × HasFaultFo
 abbrev pub without_list : Stage → Stage
 without_list stage = record { given = given None stage.given.sources; output = stage.output }
 
--- The effect of a query with a list: its source gave words, and all words, those of the command line and then these,
--- were queried; or it gave none, and nothing else was read, and nothing written.
+-- the source of the list gave words, and all words, those of the command line and then these, were queried
+abbrev pub QueriesAll : QueryWords → Stage → Stage → Result Told ToolFault → Type 0
+QueriesAll words old new outcome = (all : QueryWords) × AreAllWordsOf words old.given.list new.given.list all
+    × DoesByTally (Query all) (without_list old) (without_list new) outcome
+
+-- it gave none, for this reason; nothing else was read, and nothing written
+abbrev pub LacksWords : Stage → Stage → ToolFault → Type 0
+LacksWords old new fault = TellsNoWordsOf old.given.list new.given.list fault
+    × (new.given.sources ≡ old.given.sources) × (new.output ≡ old.output)
+
+-- the effect of a query with a list: all words were queried; or there were no words of the list
 abbrev pub QueriesBy : QueryWords → Stage → Stage → Result Told ToolFault → Type 0
-QueriesBy words old new outcome =
-    ((all : QueryWords) × AreAllWordsOf words old.given.list new.given.list all
-    × DoesByTally (Query all) (without_list old) (without_list new) outcome)
-    ⊎ ((fault : ToolFault) × (outcome ≡ Err fault) × TellsNoWordsOf old.given.list new.given.list fault
-    × (new.given.sources ≡ old.given.sources) × (new.output ≡ old.output))
+QueriesBy words old new (Ok told) = QueriesAll words old new (Ok told)
+QueriesBy words old new (Err fault) = QueriesAll words old new (Err fault) ⊎ LacksWords old new fault
 
 -- a task that takes its sources one after another
 abbrev pub TakesSources : Task → Type 0
