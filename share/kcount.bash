@@ -53,8 +53,9 @@ _kcount() {
             ;;
         query)
             case $before in
+                --file) return ;;
                 -o | --output) ;;
-                *) [[ $word != -* ]] || offered='-o --output --explain -h --help' ;;
+                *) [[ $word != -* ]] || offered='--file -o --output --explain -h --help' ;;
             esac
             ;;
         merge)

@@ -38,7 +38,7 @@ complete -c kcount -n '__fish_kcount_command count' -l column -d 'Dump a k-mer a
 complete -c kcount -n '__fish_kcount_command count' -l tab -d 'With --column, put a tab between a k-mer and its count'
 complete -c kcount -n '__fish_kcount_command count' -l lower-count -x -d 'Leave out k-mers with a count below this one, 0 to 2^62'
 complete -c kcount -n '__fish_kcount_command count' -l upper-count -x -d 'Leave out k-mers with a count above this one, 0 to 2^62'
-complete -c kcount -n '__fish_kcount_command count' -l high -x -d 'Greatest count with a line of its own'
+complete -c kcount -n '__fish_kcount_command count' -l high -x -d 'Greatest count with a line of its own, 1 to 10000000'
 complete -c kcount -n '__fish_kcount_command count' -l only -r -d 'Count only k-mers that occur in this FASTA or FASTQ file'
 complete -c kcount -n '__fish_kcount_command count' -l explain -d 'Explain an error in a second line, as on a terminal'
 complete -c kcount -n '__fish_kcount_command count' -s h -l help -d 'Print help'
@@ -51,7 +51,7 @@ complete -c kcount -n '__fish_kcount_command dump' -s o -l output -r -d 'Write t
 complete -c kcount -n '__fish_kcount_command dump' -l explain -d 'Explain an error in a second line, as on a terminal'
 complete -c kcount -n '__fish_kcount_command dump' -s h -l help -d 'Print help'
 
-complete -c kcount -n '__fish_kcount_command histo' -l high -x -d 'Greatest count with a line of its own'
+complete -c kcount -n '__fish_kcount_command histo' -l high -x -d 'Greatest count with a line of its own, 1 to 10000000'
 complete -c kcount -n '__fish_kcount_command histo' -s o -l output -r -d 'Write to this file instead of standard output'
 complete -c kcount -n '__fish_kcount_command histo' -l explain -d 'Explain an error in a second line, as on a terminal'
 complete -c kcount -n '__fish_kcount_command histo' -s h -l help -d 'Print help'
@@ -60,6 +60,7 @@ complete -c kcount -n '__fish_kcount_command stats' -s o -l output -r -d 'Write 
 complete -c kcount -n '__fish_kcount_command stats' -l explain -d 'Explain an error in a second line, as on a terminal'
 complete -c kcount -n '__fish_kcount_command stats' -s h -l help -d 'Print help'
 
+complete -c kcount -n '__fish_kcount_command query' -l file -x -d 'Also look up the k-mers of this file, one a line'
 complete -c kcount -n '__fish_kcount_command query' -s o -l output -r -d 'Write to this file instead of standard output'
 complete -c kcount -n '__fish_kcount_command query' -l explain -d 'Explain an error in a second line, as on a terminal'
 complete -c kcount -n '__fish_kcount_command query' -s h -l help -d 'Print help'
@@ -86,7 +87,7 @@ complete -c kcount -n '__fish_kcount_command filter' -s h -l help -d 'Print help
 
 complete -c kcount -n '__fish_kcount_command compare' -l solid -x -d 'Least count of a solid k-mer of READS, 0 to 2^62'
 complete -c kcount -n '__fish_kcount_command compare' -l matrix -d 'Write the number of k-mers for each count in ASSEMBLY and each count in READS'
-complete -c kcount -n '__fish_kcount_command compare' -l high -x -d 'Greatest count with a line of its own'
+complete -c kcount -n '__fish_kcount_command compare' -l high -x -d 'Greatest count with a line of its own, 1 to 10000000'
 complete -c kcount -n '__fish_kcount_command compare' -s o -l output -r -d 'Write to this file instead of standard output'
 complete -c kcount -n '__fish_kcount_command compare' -l explain -d 'Explain an error in a second line, as on a terminal'
 complete -c kcount -n '__fish_kcount_command compare' -s h -l help -d 'Print help'

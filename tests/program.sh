@@ -117,7 +117,7 @@ refuses $'the argument \'--mer-len <K>\' cannot be used multiple times\n'"$usage
 refuses $'unexpected argument \'--frob\' found\n\n  tip: to pass \'--frob\' as a value, use \'-- --frob\'\n'"$usage_of_count" count --frob
 refuses $'unexpected argument \'b\' found\n\nUsage: kcount stats [OPTIONS] [FILE]\n' stats a b
 refuses $'the following required arguments were not provided:\n  <TABLE>\n\nUsage: kcount query <TABLE> [WORD]...\n' query
-refuses $'the following required arguments were not provided:\n  <TABLE>\n\nUsage: kcount query <TABLE> [WORD]...\n' query --file words
+refuses $'the following required arguments were not provided:\n  <TABLE>\n\nUsage: kcount query --file <WORDS> <TABLE> [WORD]...\n' query --file words
 refuses $'a query needs a WORD, or a list of words: --file <WORDS>\n\nUsage: kcount query [OPTIONS] <TABLE> [WORD]...\n' query two.kct
 refuses $'a query needs a WORD, or a list of words: --file <WORDS>\n\nUsage: kcount query [OPTIONS] <TABLE> [WORD]...\n' query missing
 refuses $'the following required arguments were not provided:\n  <FIRST>\n  <SECOND>...\n'"$usage_of_merge" merge
