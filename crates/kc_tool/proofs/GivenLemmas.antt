@@ -1,6 +1,6 @@
 -- Reading the sources of a task one by one.
 use Rattle.std.proofs.Common.{◌≡◌, ◌∙◌, ◌≤◌, ◌<◌, ◌+◌, ◌-◌, ℕ, zero, suc, All, List, [], ◌∷◌, ◌++◌, map, length, drop, get_or, set, max, take, refl, sym, ap, subst, arith}
-use Rattle.std.proofs.Common.{inl, inr}
+use Rattle.std.proofs.Common.{inl}
 use Rattle.std.specs.Prelude.{Result, Ok, Err, IfOk, IfErr, Some}
 use Rattle.std.proofs.Math.Seq.{map-set_same}
 use Rattle.std.proofs.lemmas.List.{drop-set-add, drop_all, get_or-drop, get_or-map, length-drop, length-map, length-set, map-set, take-set-le}

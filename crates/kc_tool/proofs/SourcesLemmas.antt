@@ -1,7 +1,7 @@
 -- Sources whose reads were cut, and what is counted of them, with a list and without one.
 use Rattle.std.proofs.Common.{◌≡◌, ◌≤◌, ◌-◌, ◌^◌, ◌∙◌, ℕ, List, [], ◌∷◌, ◌++◌, length, length-append, arith, refl, sym, ap, ap₂, subst, inl, inr}
 use Rattle.std.specs.Io.KnownBytes.{Consumes}
-use Rattle.std.specs.Prelude.{Option, Some, None, false, true, Result, Ok, Err}
+use Rattle.std.specs.Prelude.{Option, Some, None, false, true, Ok, Err}
 use Rattle.kc_gzip.specs.declared.faults.GzipFault.{GzipFault}
 use Rattle.kc_gzip.specs.declared.faults.GzipFault.TheVariants as gzip
 use Rattle.std.specs.List.{concat}

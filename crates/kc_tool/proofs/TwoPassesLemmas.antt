@@ -1,7 +1,7 @@
 -- Tables in files that are opened twice.
-use Rattle.std.proofs.Common.{◌≡◌, ℕ, ◌+◌, ◌<◌, ◌≤◌, ◌++◌, ◌∙◌, List, [], ◌∷◌, get_or, length, map, take, drop, inl, inr, refl, sym, ap, ap₂, append_assoc, append-nil, subst, arith, Bor, Err}
+use Rattle.std.proofs.Common.{◌≡◌, ℕ, ◌+◌, ◌<◌, ◌≤◌, ◌++◌, ◌∙◌, List, [], ◌∷◌, get_or, length, map, take, drop, inl, inr, refl, sym, ap, ap₂, append_assoc, append-nil, arith, Bor, Err}
 use Rattle.std.specs.Prelude.{◌⊎◌, Result}
-use Rattle.std.proofs.lemmas.List.{get_or-map, length-append, length-drop, length-map, length-take-le, length_push, map-append, map_push, take-append-drop, take_more}
+use Rattle.std.proofs.lemmas.List.{get_or-map, length-drop, length-map, length-take-le, length_push, map-append, map_push, take-append-drop, take_more}
 use Rattle.std.proofs.lemmas.Simd.{map-map}
 use Rattle.kc_io.specs.Sinks.{Written}
 use Rattle.kc_io.specs.Sources.{Seen}

@@ -14,7 +14,7 @@ use Rattle.kc_report.specs.declared.report_faults.ReportFault.{ReportFault}
 use Rattle.kc_report.specs.AskedWords.{GivesCountsOf, HasCountsOf}
 use Rattle.kc_report.specs.Numbers.{GivesNumbers, IsCountOf, NumbersSeen}
 use Rattle.kc_report.specs.Querying.{IsAskable, IsFirstBadWord, query_text}
-use Rattle.kc_report.specs.Table.{MaySay, table_text}
+use Rattle.kc_report.specs.Table.{MaySay}
 use Rattle.kc_report.specs.TableReading.{GivesTable, RefusesTable}
 use Rattle.kc_report.specs.WordList.{GivesWords, RefusesWords}
 use Rattle.kc_combine.specs.CombinedTexts.{GiveTables}
@@ -54,7 +54,6 @@ use Rattle.kc_tool.specs.declared.named_sources.NamedSource.{NamedSource}
 use Rattle.kc_tool.specs.Reports.{HasLines, numbers_text, report_of, report_text}
 use Rattle.kc_tool.specs.declared.table_reports.TableReport.TheVariants as lists
 use Rattle.kc_tally.specs.Tally.{TallySeen}
-use Rattle.kc_report.specs.declared.origin.Origin.{Origin}
 use Rattle.kc_tool.specs.Tallies.{Counts, Given, RefusesCount, TableSeen, given}
 use Rattle.kc_tool.specs.declared.tool_faults.ToolFault.{ToolFault}
 use Rattle.kc_tool.specs.declared.tool_faults.ToolFault.TheVariants.{Memory, BadOption, BadWord, OpenFailed, Write}

@@ -1,4 +1,4 @@
-use Rattle.std.proofs.Common.{Err, Some, ap₂, get_or, inl, inr, length, max, refl, set, sym, arith, ◌≡◌, ◌-◌, ◌≤◌, ◌∙◌}
+use Rattle.std.proofs.Common.{Err, Some, ap₂, get_or, inr, length, max, refl, set, sym, arith, ◌≡◌, ◌-◌, ◌≤◌, ◌∙◌}
 use Rattle.std.proofs.lemmas.List.{length-set}
 use Rattle.std.proofs.lemmas.Result.{err_from_is_err_and}
 use Rattle.kc_tool.specs.Commands.{QueriesBy}

@@ -1,4 +1,4 @@
-use Rattle.std.proofs.Common.{◌≡◌, ◌+◌, ◌∙◌, ◌++◌, ◌/◌, ◌∷◌, [], Bor, List, ℕ, map, length, arith, ap, sym, append-nil}
+use Rattle.std.proofs.Common.{◌∙◌, ◌++◌, ◌/◌, Bor, List, ℕ, map, length, arith, ap, sym, append-nil}
 use Rattle.std.proofs.lemmas.List.{length_push, nil_from_length}
 use Rattle.std.specs.Vec.Iter.{into_iter_items}
 use Rattle.kc_tool.specs.NamedSources.{names_of}
