@@ -1,5 +1,6 @@
 -- The dump of a table text, row by row.
-use Rattle.std.proofs.Common.{◌≡◌, ℕ, ◌^◌, ◌<◌, List, [], ◌∷◌, ◌++◌, sym, ◌∙◌, ap, subst, append-nil, inl, inr}
+use Rattle.std.proofs.Common.{◌≡◌, ℕ, ◌^◌, ◌<◌, ◌≤◌, List, [], ◌∷◌, ◌++◌, length, arith, sym, ◌∙◌, ap, subst}
+use Rattle.std.proofs.Common.{append-nil, inl, inr}
 use Rattle.std.specs.Prelude.{Result, Ok}
 use Rattle.kc_io.specs.declared.failures.Failed.{Failed}
 use Rattle.kc_io.specs.Sinks.{Written, Drains, HasBegun, HasWritten}
@@ -13,6 +14,7 @@ use Rattle.kc_report.specs.declared.report_faults.ReportFault.TheVariants.{Broke
 use Rattle.kc_report.specs.DumpedText.{DumpsNot, StopsBehindRows}
 use Rattle.kc_report.specs.Dumping.{dump_text, shown_text}
 use Rattle.kc_report.specs.Faults.{UnlessWrite}
+use Rattle.kc_report.specs.Lines.{block_size}
 use Rattle.kc_report.specs.RowByRow.{ComesNext, HasGivenRows, HasSameHeader, TableStand, RefusesRow, tally_of}
 use Rattle.kc_report.proofs.DumpLemmas.{dump_text-cons}
 use Rattle.kc_report.proofs.PieceLemmas.{dump_text-append}
@@ -34,6 +36,7 @@ pub record KeepsDump (old new : Seen) (limit k : ℕ) (dump : Dump) (start now :
   pub given : HasGivenRows old new limit rows stand
   pub k_is : stand.read.k ≡ k
   pub drained : Drains start now (dump_text k dump rows) block
+  pub few : length block ≤ block_size
 
 pub keeps_none : {old new : Seen} {limit k : ℕ} {dump : Dump} {block : List ℕ} {stand : TableStand} (seen : Written)
     → HasGivenRows old new limit [] stand → stand.read.k ≡ k → block ≡ []
@@ -43,6 +46,7 @@ keeps_none {block = block} seen given k_is none = record {
   given = given;
   k_is = k_is;
   drained = subst (λ v. Drains seen seen [] v) (sym none) (drains_none seen []);
+  few = let long = ap length none in omega (arith, long);
 }
 
 -- a row that may come next has k bases
@@ -55,9 +59,9 @@ row_below {row = row} kept comes = subst (λ n. row.word < 4 ^ n) kept.k_is come
 pub dumps_row : {old before new : Seen} {limit k : ℕ} {dump : Dump} {start now next : Written} {block after : List ℕ}
     {was stand : TableStand} (row : Row) (kept : KeepsDump old before limit k dump start now block was)
     → HasGivenRows old new limit (kept.rows ++ row ∷ []) stand → HasSameHeader was stand
-    → Drains now next (block ++ shown_text k dump row) after
+    → Drains now next (block ++ shown_text k dump row) after → length after ≤ block_size
     → KeepsDump old new limit k dump start next after stand
-dumps_row {k = k} {dump} {start} {now} {next} {block} {after} row kept given header moved =
+dumps_row {k = k} {dump} {start} {now} {next} {block} {after} row kept given header moved few =
     let text = dump_text k dump kept.rows in
     let shown = shown_text k dump row in
     record {
@@ -67,6 +71,7 @@ dumps_row {k = k} {dump} {start} {now} {next} {block} {after} row kept given hea
       drained = subst (λ v. Drains start next v after) (sym (dump_text-push k dump kept.rows row))
           (drains_both start now next (text ++ shown) (block ++ shown) after
           (drains_more start now text block shown kept.drained) moved);
+      few = few;
     }
 
 -- ---- faults
@@ -116,6 +121,7 @@ stops_here {old} {before} {limit} {k} {dump} {start} {now} {block} {was} {stand}
       refused = subst (λ f. RefusesRow old new limit f fault) front refused;
       left = block;
       drained = subst (λ n. Drains start now (dump_text n dump kept.rows) block) (sym kept.k_is) kept.drained;
+      few = kept.few;
     })
 
 -- ---- the sink

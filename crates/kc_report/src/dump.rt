@@ -153,6 +153,7 @@ pub(crate) fn put_row<W: Sink>(
     requires below { row.word < 4 ^ k }
     ensures ok { OnOk result (Drains (W.seen writer.old) (W.seen writer.new)
         (block.old ++ shown_text k dump.now row) block.new) }
+    ensures few { OnOk result (length block.old ≤ BLOCK_SIZE → length block.new ≤ BLOCK_SIZE) }
     ensures err { OnErr result (HasBegun (W.seen writer.old) (W.seen writer.new) block.old) }
 {
     if is_shown(dump, row) {
@@ -181,7 +182,8 @@ pub(crate) const ROW_SIZE: usize = WORD_SIZE + NUMBER_SIZE + 3;
 fn push_row(block: &mut Block, k: K, dump: &Dump, row: Row)
     requires room { length block.old + ROW_SIZE ≤ BLOCK_SIZE }
     requires below { row.word < 4 ^ k }
-    ensures { block.new ≡ block.old ++ row_text k dump.now row }
+    ensures pushed { block.new ≡ block.old ++ row_text k dump.now row }
+    ensures few { length block.new ≤ BLOCK_SIZE }
 {
     if dump.column {
         push_columns(block, k, dump.tab, row);
@@ -195,7 +197,8 @@ fn push_row(block: &mut Block, k: K, dump: &Dump, row: Row)
 pub(crate) fn push_columns(block: &mut Block, k: K, tab: bool, row: Row)
     requires room { length block.old + ROW_SIZE ≤ BLOCK_SIZE }
     requires below { row.word < 4 ^ k }
-    ensures { block.new ≡ block.old ++ row_in_columns k tab row }
+    ensures pushed { block.new ≡ block.old ++ row_in_columns k tab row }
+    ensures few { length block.new ≤ BLOCK_SIZE }
 {
     push_word(block, k, Word(row.word));
     if tab {
@@ -212,7 +215,8 @@ pub(crate) fn push_columns(block: &mut Block, k: K, tab: bool, row: Row)
 fn push_lines(block: &mut Block, k: K, row: Row)
     requires room { length block.old + ROW_SIZE ≤ BLOCK_SIZE }
     requires below { row.word < 4 ^ k }
-    ensures { block.new ≡ block.old ++ row_in_lines k row }
+    ensures pushed { block.new ≡ block.old ++ row_in_lines k row }
+    ensures few { length block.new ≤ BLOCK_SIZE }
 {
     block.push(b">");
     block.push_number(row.count);

@@ -39,6 +39,7 @@ rows-preserved g c =
     let kept = c.rows.invariant in
     let told = rw c.in-Some.is at c.in_ok-row.ensures.given _ _ kept.rows kept.given in
     dumps_row c.in-Some.row kept told c.in_ok-row.ensures.header c.in_ok-put_row.ensures.ok
+    (c.in_ok-put_row.ensures.few kept.few)
 
 pub returns-in_err-put_row-clause-stopped : goal.returns-in_err-put_row-clause-stopped
 returns-in_err-put_row-clause-stopped g c =

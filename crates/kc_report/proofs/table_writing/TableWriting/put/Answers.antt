@@ -17,4 +17,4 @@ returns-clause-put g c = λ start header rows put.
     let now = g.W.Sink.seen c.args.writer.now in
     let stood = subst (λ (s : WritingStand). HasPutRows start now header rows s) (sym c.self.view_is) put in
     puts_row start now (g.W.Sink.seen c.make_room.new.writer) header rows c.args.row _ _ c.make_room.new.self stood
-    c.in_ok-make_room.ensures.ok c.push_columns.ensures refl refl refl
+    c.in_ok-make_room.ensures.ok c.push_columns.ensures.pushed refl refl refl
