@@ -16,8 +16,8 @@ use std::alloc::Global;
 ///
 /// # Errors
 /// Those of `read_table`: after a bad header nothing was written, and after another fault of the table the writer took
-/// a beginning of the dump of the rows before it. `Write` if the writer failed or took no byte; it took a beginning of
-/// the dump.
+/// the dump of the rows before it but for at most `BLOCK_SIZE` bytes at its end. `Write` if the writer failed or took
+/// no byte; it took a beginning of the dump.
 pub fn write_dump_of_text<S: Source, W: Sink>(
     alloc: Global,
     source: &mut S,

@@ -1,4 +1,5 @@
-//! The words of bases, rolled along them code by code.
+//! The words of bases, rolled along them code by code, in the form under which they count: if both strands count, that
+//! is the lesser of a word and its reverse complement.
 ghost use Rattle.std.specs.Prelude.{◌≡◌, ◌^◌, ◌<◌, ◌≤◌, ℕ, List, length};
 ghost use Rattle.kc_word.specs.Walking.{Walking, IsWalking, IsNext, IsTaken, at_front};
 
@@ -34,8 +35,8 @@ impl Rolled {
         }
     }
 
-    /// Takes the code of the next byte, or `NO_BASE`, and returns the word that ends there, if there is one. Condition:
-    /// it is the code of the next byte of a place.
+    /// Takes the code of the next byte, or `NO_BASE`, and returns the word that ends there, in the form under which it
+    /// counts, if there is one. Condition: it is the code of the next byte of a place.
     #[inline(always)]
     pub fn push(&mut self, code: u64) -> Option<u64>
         requires { (walking : Walking) × IsNext walking self.old code }
