@@ -423,10 +423,8 @@ fn own_file_count(task: &Task) -> usize
     ensures { result ≡ own_of task.now }
 {
     match task {
-        Task::CountListed(_)
-        | Task::QueryListed(_)
-        | Task::Select(_, _)
-        | Task::SelectPairs(_) => 1,
+        Task::CountListed(_) | Task::QueryListed(_) | Task::Select(_, _) | Task::SelectPairs(_) =>
+            1,
         _ => 0,
     }
 }
