@@ -18,6 +18,8 @@ bases=${1:-4900000}
 k=${2:-21}
 whole_command "$bases"
 kmers=$((bases * ${COVERAGE:-20} / 100 * (101 - k)))
+# (what an earlier run left is no text of these reads)
+rm -f "$work"/{kcount,jellyfish,kmc}.txt
 
 # what a tool does with so many threads
 kcount_dump() { "$kcount" count -m $k -C -t "$1" ${OPTIONS:-} --print dump --column -o "$work/kcount.txt" "$reads"; }
