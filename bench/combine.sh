@@ -5,7 +5,7 @@
 # time (0.4 of it for `compare`), and 0.3 of Jellyfish's.
 #   bench/combine.sh
 # The tables are of words of length 21 on both strands, of two random sequences each, of which each shares one with the table before it. They
-# are not measured. What the tools write is compared. (Debian's `kmc_tools complex` stops with an error, so eight tables have no peer.)
+# are not measured. What the tools write is compared, but for `compare`. (Debian's `kmc_tools complex` stops with an error, so eight tables have no peer.)
 #   ROWS        rows of a table (14000000)
 #   PEERS       "jellyfish kmc"
 # It needs bin/kcount. The peers are Debian's (apt-get install jellyfish kmc time); one that is missing is left out.
