@@ -1,9 +1,10 @@
 //! Sequence reads.
-ghost use Rattle.std.specs.Prelude.{◌≡◌, ◌↔◌, IsSome, IfSome};
+ghost use Rattle.std.specs.Prelude.{◌≡◌, ◌↔◌, IsSome, IfSome, IfOk};
 ghost use Rattle.std.specs.Option.{option_copied, option_map};
 
 use crate::fastq::are_quality_bytes;
 use crate::records::are_sequence_bytes;
+use std::alloc::AllocError;
 use std::marker::Model;
 
 /// A sequence read: its bases and, if its format has them, one quality byte for each base.
@@ -43,6 +44,28 @@ impl SeqRead {
         } else {
             None
         }
+    }
+
+    /// The same read as `other`, in the memory of this one.
+    ///
+    /// # Errors
+    /// `AllocError` if `other` is longer and a growth was refused.
+    pub fn refill(self, other: &SeqRead) -> Result<SeqRead, AllocError>
+        ensures { IfOk result (λ read. read ≡ other.now) }
+    {
+        let SeqRead { mut bases, quals } = self;
+        bases.clear();
+        bases.extend_from_slice(&other.bases)?;
+        let quals = match &other.quals {
+            None => None,
+            Some(others) => {
+                let mut quals = quals.unwrap_or(Vec::new(*bases.allocator()));
+                quals.clear();
+                quals.extend_from_slice(others)?;
+                Some(quals)
+            }
+        };
+        Ok(SeqRead { bases, quals })
     }
 
     /// The bases, as in the file.

@@ -180,6 +180,36 @@ fn gzip_is_decompressed(rt: HostRuntime) -> Result<(), Fail> {
     Ok(assert_shown(&rt, 0, &answer, b"broken gzip")?)
 }
 
+// Reads that are copied into the memory of other ones.
+const REFILLED: &[(&[u8], &[u8], &[u8])] = &[
+    (b"@q\nACGT\n+\n#$%&\n", b"@q\nTG\n+\nIJ\n", b"TG IJ|"),
+    (b"@q\nAC\n+\n#$\n", b"@q\nTGCA\n+\nIJKL\n", b"TGCA IJKL|"),
+    (b"@q\nACGT\n+\n#$%&\n", b">r\nTG\n", b"TG|"),
+    (b">r\nACGT\n", b"@q\nTG\n+\nIJ\n", b"TG IJ|"),
+    (b">r\nAC\n", b">s\n", b"|"),
+];
+
+// The last of these reads.
+fn last_read(alloc: Global, bytes: &[u8]) -> Result<SeqRead, Fail> {
+    let mut reads = parse(alloc, bytes)?;
+    match reads.pop() {
+        Some(read) => Ok(read),
+        None => Err(Fail::from("no read")),
+    }
+}
+
+#[test]
+fn a_read_takes_the_memory_of_another(rt: HostRuntime) -> Result<(), Fail> {
+    let alloc = rt.alloc();
+    for (row, (old, new, want)) in REFILLED.iter().enumerate() {
+        let read = last_read(alloc, *old)?.refill(&last_read(alloc, *new)?)?;
+        let mut text = Vec::new(alloc);
+        push_read(&mut text, &read)?;
+        assert_items(&rt, row, text.as_slice(), *want);
+    }
+    Ok(())
+}
+
 // Run with each allocation refused in turn: `rt try --test --fail-alloc N`.
 #[test]
 fn memory_or_the_reads(rt: HostRuntime) {
