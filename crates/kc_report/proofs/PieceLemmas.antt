@@ -1,13 +1,16 @@
 -- The dump of rows in pieces, piece after piece.
-use Rattle.std.proofs.Common.{◌≡◌, ◌∙◌, ℕ, ◌+◌, ◌^◌, ◌<◌, ◌≤◌, true, false, cond, List, [], ◌∷◌, ◌++◌, length, get_or, take, drop}
-use Rattle.std.proofs.Common.{All, refl, sym, ap, subst, arith}
+use Rattle.std.proofs.Common.{◌≡◌, ◌∙◌, ℕ, ◌+◌, ◌^◌, ◌<◌, ◌≤◌, true, false, cond, List, [], ◌∷◌, ◌++◌, length, get_or, drop}
+use Rattle.std.proofs.Common.{All, refl, sym, ap, subst, arith, append-nil}
 use Rattle.std.specs.Prelude.{filter}
 use Rattle.std.specs.List.{flat_map}
 use Rattle.std.proofs.lemmas.Bool.Decides.{nat_tests}
-use Rattle.std.proofs.lemmas.List.{take-append-drop, drop_more, drop-drop, length-append, length-take, length-drop, get_or_append_left, get_or-append-add}
+use Rattle.std.proofs.lemmas.List.{drop_more, length-append, get_or_append_left, get_or-append-add, drop_all}
 use Rattle.std.proofs.lemmas.List.Concat.{flat_map-append}
 use Rattle.std.proofs.lemmas.List.Elements.{All-nil, All-cons, filter-append}
 use Rattle.std.proofs.lemmas.List.Sums.{sum_by-cons}
+use Rattle.std.specs.Prelude.{Result, Ok, Err}
+use Rattle.kc_io.specs.Sinks.{Written, HandsOver}
+use Rattle.kc_io.proofs.SinksLemmas.{Pending, took_front, took_all, began_front}
 use Rattle.kc_tally.specs.declared.row.Row.{Row}
 use Rattle.kc_tally.specs.Tally.{total_of}
 use Rattle.kc_report.specs.declared.dump.Dump.{Dump}
@@ -40,22 +43,15 @@ first_pieces k dump pieces front rest is =
     ∙ ap (dump_text k dump) (flat_map-append (λ (piece : List Row). piece) front rest)
     ∙ dump_text-append k dump (all_rows front) (all_rows rest)
 
--- the dump of the pieces from one on is that of the next few and that of those after them
-pub next_pieces : (k : ℕ) (dump : Dump) (pieces : List (List Row)) (i n : ℕ)
-    → dump_text k dump (all_rows (drop i pieces))
-    ≡ dump_text k dump (all_rows (take n (drop i pieces))) ++ dump_text k dump (all_rows (drop (i + n) pieces))
-next_pieces k dump pieces i n =
-    first_pieces k dump (drop i pieces) (take n (drop i pieces)) (drop n (drop i pieces)) (sym (take-append-drop n (drop i pieces)))
-    ∙ ap (λ ps. dump_text k dump (all_rows (take n (drop i pieces))) ++ dump_text k dump (all_rows ps)) (drop-drop n i pieces)
+-- the last of the text is handed over, in either outcome
+pub last_pieces : {A E : Type 0} (s a b : Written) (text x : List ℕ) (r : Result A E) → Pending s a text x → HandsOver a b r x
+    → HandsOver s b r text
+last_pieces s a b text x (Ok y) p w = took_all s b text (took_front s a b text x [] (subst (λ v. Pending s a text v) (sym (append-nil x)) p) w)
+last_pieces s a b text x (Err f) p w = began_front s a b text x [] (subst (λ v. Pending s a text v) (sym (append-nil x)) p) w
 
--- as much room is left if some of the items were written over
-pub still_room : {X : Type 0} (n : ℕ) (given items : List X) → n ≡ length items → 1 ≤ length items
-    → 1 ≤ length (take n (given ++ drop (length given) items))
-still_room n given items is some =
-    let taken = length-take n (given ++ drop (length given) items) in
-    let joined = length-append given (drop (length given) items) in
-    let left = length-drop (length given) items in
-    omega (arith, taken, joined, left, is, some)
+-- items that were all written over
+pub nothing_left : {X : Type 0} (given items : List X) → given ++ drop (length items) items ≡ given
+nothing_left given items = ap (λ v. given ++ v) (drop_all (length items) items (omega arith)) ∙ append-nil given
 
 -- what holds for joined lists holds for each
 All-front : {X : Type 0} (P : X → Type 0) (xs ys : List X) → All P (xs ++ ys) → All P xs

@@ -10,7 +10,8 @@
 //! The `Block` of `kc_io` gathers the bytes of a text, so that the writer gets blocks of 64 KB.
 //!
 //! `write_dump_in_parallel` and `write_table_in_parallel` write the same texts with several threads. Each thread makes
-//! the text of pieces of 8,192 rows, and the writer gets the text of one piece at a time.
+//! the text of pieces of 8,192 rows, and the writer gets the text of one piece at a time. While it gets the texts of
+//! some pieces, those of the next ones are made.
 //!
 //! ```ignore
 //! let mut sink = ToVec::new(Vec::new(rt.alloc()));

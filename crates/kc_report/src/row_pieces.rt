@@ -1,6 +1,8 @@
 //! The text of a tally's rows, made by several threads: each makes that of whole pieces, which are neighbouring rows.
-ghost use Rattle.std.specs.Prelude.{◌≡◌, ◌<◌, ◌≤◌, ◌*◌, ◌^◌, All, IfOk, length};
+//! While the texts of some pieces are handed over, those of the next ones are made.
+ghost use Rattle.std.specs.Prelude.{◌≡◌, ◌<◌, ◌≤◌, ◌*◌, ◌^◌, All, IfOk, length, min};
 ghost use Rattle.std.specs.List.{flat_map};
+ghost use Rattle.std.specs.Thread.{IsSync};
 ghost use Rattle.std.specs.Vec.{vec_capacity};
 ghost use Rattle.kc_io.specs.Sinks.{HandsOver};
 ghost use Rattle.kc_report.specs.Dumping.{dump_text};
@@ -11,16 +13,16 @@ use kc_io::{Failed, Sink, ToVec, write_all};
 use kc_kmer::K;
 use kc_tally::{Rows, Tally};
 use std::alloc::{AllocError, Global};
-use std::mem::replace;
+use std::mem::{replace, swap};
 use std::thread;
-use std::thread::Threads;
+use std::thread::{Threads, join_mut};
 
 // The greatest numbers of rows of a piece, and of bytes of its text.
 const PIECE_ROWS: usize = 1 << 13;
 
 const PIECE_SIZE: usize = PIECE_ROWS * ROW_SIZE;
 
-// How many pieces a thread takes at a time: much more work than starting a thread.
+// For how many texts a thread has room. It makes half of them at a time: much more work than starting a thread.
 const THREAD_PIECES: usize = 16;
 
 // The text of a piece; less of it, if memory was refused.
@@ -30,12 +32,27 @@ struct PieceText {
     whole: bool,
 }
 
-// The pieces whose text so many threads will make, and room for some of their texts at a time.
+// The pieces whose text is to be made, and room for some of their texts at a time.
 #[derive(Drop)]
 struct Work<'a> {
-    threads: u32,
     pieces: Vec<Rows<'a>>,
     texts: Vec<PieceText>,
+}
+
+// How the texts of rows are made: by at most so many threads, of words of k bases.
+#[derive(Drop)]
+struct Form<'a, H> {
+    rt: &'a H,
+    threads: u32,
+    k: K,
+    dump: &'a Dump,
+}
+
+// Pieces whose texts are made.
+#[derive(Clone, Copy)]
+struct Made<'p, 't> {
+    pieces: &'p [Rows<'p>],
+    texts: &'t [PieceText],
 }
 
 /// Hands over the dump of the tally's rows, with its text made by at most so many threads. If memory for that is
@@ -53,7 +70,15 @@ pub(crate) fn hand_over_in_parallel<W: Sink, H: Threads + Sync>(
         (dump_text tally.now.k dump.now tally.now.rows) }
 {
     match work_on(alloc, threads, tally.rows()) {
-        Ok(work) => hand_over_pieces(rt, writer, work, tally.k(), dump),
+        Ok(work) => {
+            let form = Form {
+                rt,
+                threads,
+                k: tally.k(),
+                dump,
+            };
+            hand_over_pieces(&form, writer, work)
+        }
         Err(AllocError) => hand_over_rows(writer, tally.rows(), tally.k(), dump),
     }
 }
@@ -62,16 +87,11 @@ pub(crate) fn hand_over_in_parallel<W: Sink, H: Threads + Sync>(
 fn work_on<'a>(alloc: Global, threads: u32, rows: Rows<'a>) -> Result<Work<'a>, AllocError>
     requires { 1 ≤ threads }
     ensures rows { IfOk result (λ work. flat_map (λ piece. piece) work.pieces.items ≡ rows.entry) }
-    ensures room { IfOk result (λ work. 1 ≤ length work.pieces.items → 1 ≤ length work.texts.items) }
-    ensures threads { IfOk result (λ work. work.threads ≡ threads) }
+    ensures room { IfOk result (λ work. min 2 (length work.pieces.items) ≤ length work.texts.items) }
 {
     let pieces = cut(alloc, rows)?;
     let texts = room_for_texts(alloc, threads, pieces.len())?;
-    Ok(Work {
-        threads,
-        pieces,
-        texts,
-    })
+    Ok(Work { pieces, texts })
 }
 
 // The rows in pieces, each of at most as many rows as a piece may have.
@@ -91,7 +111,7 @@ fn cut<'a>(alloc: Global, mut rows: Rows<'a>) -> Result<Vec<Rows<'a>>, AllocErro
 // pieces.
 fn room_for_texts(alloc: Global, threads: u32, pieces: usize) -> Result<Vec<PieceText>, AllocError>
     requires { 1 ≤ threads }
-    ensures some { IfOk result (λ texts. 1 ≤ pieces → 1 ≤ length texts.items) }
+    ensures some { IfOk result (λ texts. min 2 pieces ≤ length texts.items) }
     ensures few { IfOk result (λ texts. vec_capacity texts ≤ threads * THREAD_PIECES) }
     ensures bounded { IfOk result (λ texts. All (λ text. vec_capacity text.bytes ≤ PIECE_SIZE) texts.items) }
 {
@@ -106,53 +126,98 @@ fn room_for_texts(alloc: Global, threads: u32, pieces: usize) -> Result<Vec<Piec
     Ok(texts)
 }
 
-// Hands over the dump of the rows of all pieces; each thread makes the text of a few pieces at a time. Conditions:
-// there is at least one thread and room for one text, and the words have k bases.
+// Hands over the dump of the rows of all pieces; while the texts of some pieces are handed over, those of the next ones
+// are made. Conditions: there is at least one thread, the words have k bases, and there is room for the text of one
+// piece, and for those of two if there are more pieces.
 fn hand_over_pieces<W: Sink, H: Threads + Sync>(
-    rt: &H,
+    form: &Form<'_, H>,
     writer: &mut W,
     work: Work<'_>,
-    k: K,
-    dump: &Dump,
 ) -> Result<(), Failed>
-    requires below { All (All (λ row. row.word < 4 ^ k)) work.pieces.items }
-    requires room { 1 ≤ length work.pieces.items → 1 ≤ length work.texts.items }
-    requires threads { 1 ≤ work.threads }
+    requires threads { 1 ≤ form.now.threads }
+    requires below { All (All (λ row. row.word < 4 ^ form.now.k)) work.pieces.items }
+    requires room { min 2 (length work.pieces.items) ≤ length work.texts.items }
     ensures { HandsOver (W.seen writer.old) (W.seen writer.new) result
-        (dump_text k dump.now (flat_map (λ piece. piece) work.entry.pieces.items)) }
+        (dump_text form.now.k form.now.dump.now (flat_map (λ piece. piece) work.entry.pieces.items)) }
 {
-    let Work {
-        threads,
-        pieces,
-        mut texts,
-    } = work;
-    let mut done = 0;
-    while done < pieces.len() {
-        let count = texts.len().min(pieces.len() - done);
-        let next = &pieces[done..done + count];
-        let made = &mut texts[..count];
-        make_texts(rt, threads, next, made, k, dump);
-        hand_over_texts(writer, next, made, k, dump)?;
-        done += count;
+    let Work { pieces, mut texts } = work;
+    let half = texts.len().div_ceil(2);
+    let (mut made, mut spare) = texts.split_at_mut(half);
+    let count = made.len().min(pieces.len());
+    let (mut ready, mut rest) = pieces.split_at(count);
+    make_texts(form, ready, made);
+    while !rest.is_empty() {
+        let count = spare.len().min(rest.len());
+        let (next, later) = rest.split_at(count);
+        let before = Made {
+            pieces: ready,
+            texts: made,
+        };
+        hand_over_and_make(form, writer, before, next, spare)?;
+        ready = next;
+        rest = later;
+        swap(&mut made, &mut spare);
     }
-    Ok(())
+    let last = Made {
+        pieces: ready,
+        texts: made,
+    };
+    last.hand_over(form, writer)
 }
 
-// Makes the texts of the pieces, with at most so many threads. Conditions: there is at least one, there are as many
-// texts as pieces, and the words have k bases.
-fn make_texts<H: Threads + Sync>(
-    rt: &H,
-    threads: u32,
-    pieces: &[Rows<'_>],
+// Hands over the texts of these pieces, and makes those of the next ones meanwhile. Conditions: there is at least one
+// thread and room for the next texts, and the words have k bases.
+fn hand_over_and_make<W: Sink, H: Threads + Sync>(
+    form: &Form<'_, H>,
+    writer: &mut W,
+    made: Made<'_, '_>,
+    next: &[Rows<'_>],
     texts: &mut [PieceText],
-    k: K,
-    dump: &Dump,
-)
-    requires threads { 1 ≤ threads }
-    requires same { length texts.old ≡ length pieces.now }
-    requires below { All (All (λ row. row.word < 4 ^ k)) pieces.now }
-    ensures { AreTextsOf k dump.now pieces.now texts.new }
+) -> Result<(), Failed>
+    requires threads { 1 ≤ form.now.threads }
+    requires below { All (All (λ row. row.word < 4 ^ form.now.k)) made.pieces.now }
+    requires made { AreTextsOf form.now.k form.now.dump.now made.pieces.now made.texts.now }
+    requires all_made { length made.pieces.now ≤ length made.texts.now }
+    requires below_next { All (All (λ row. row.word < 4 ^ form.now.k)) next.now }
+    requires room { length next.now ≤ length texts.old }
+    ensures made { AreTextsOf form.now.k form.now.dump.now next.now texts.new }
+    ensures same { length texts.new ≡ length texts.old }
+    ensures handed_over { HandsOver (W.seen writer.old) (W.seen writer.new) result
+        (dump_text form.now.k form.now.dump.now (flat_map (λ piece. piece) made.entry.pieces.now)) }
 {
+    let mut make = ||
+        requires { IsSync H.row × (1 ≤ form.now.threads) × All (All (λ row. row.word < 4 ^ form.now.k)) next.now
+            × (length next.now ≤ length texts.now) }
+        ensures { AreTextsOf form.entry.now.k form.entry.now.dump.now next.entry.now texts.exit.now
+            × (length texts.exit.now ≡ length texts.entry.now) }
+    { make_texts(form, next, texts) };
+    let mut hand_over = || -> Result<(), Failed>
+        requires { All (All (λ row. row.word < 4 ^ form.now.k)) made.pieces.now
+            × AreTextsOf form.now.k form.now.dump.now made.pieces.now made.texts.now
+            × (length made.pieces.now ≤ length made.texts.now) }
+        ensures { HandsOver (W.seen writer.entry.now) (W.seen writer.exit.now) result
+            (dump_text form.entry.now.k form.entry.now.dump.now (flat_map (λ piece. piece) made.entry.pieces.now)) }
+    { made.hand_over(form, writer) };
+    let (_, outcome) = join_mut(form.rt, &mut make, &mut hand_over);
+    outcome
+}
+
+// Makes the texts of the pieces, with at most so many threads. Conditions: there is at least one and room for the
+// texts, and the words have k bases.
+fn make_texts<H: Threads + Sync>(form: &Form<'_, H>, pieces: &[Rows<'_>], texts: &mut [PieceText])
+    requires threads { 1 ≤ form.now.threads }
+    requires room { length pieces.now ≤ length texts.old }
+    requires below { All (All (λ row. row.word < 4 ^ form.now.k)) pieces.now }
+    ensures made { AreTextsOf form.now.k form.now.dump.now pieces.now texts.new }
+    ensures same { length texts.new ≡ length texts.old }
+{
+    let Form {
+        rt,
+        threads,
+        k,
+        dump,
+    } = *form;
+    let (texts, _) = texts.split_at_mut(pieces.len());
     thread::for_each_mut(
         rt,
         texts,
@@ -176,24 +241,20 @@ impl PieceText {
     }
 }
 
-// Hands over the texts of the pieces. Conditions: there are as many texts as pieces, and the words have k bases.
-fn hand_over_texts<W: Sink>(
-    writer: &mut W,
-    pieces: &[Rows<'_>],
-    texts: &[PieceText],
-    k: K,
-    dump: &Dump,
-) -> Result<(), Failed>
-    requires same { length texts.now ≡ length pieces.now }
-    requires below { All (All (λ row. row.word < 4 ^ k)) pieces.now }
-    requires made { AreTextsOf k dump.now pieces.now texts.now }
-    ensures { HandsOver (W.seen writer.old) (W.seen writer.new) result
-        (dump_text k dump.now (flat_map (λ piece. piece) pieces.now)) }
-{
-    for i in 0..pieces.len() {
-        hand_over_text(writer, &pieces[i], &texts[i], k, dump)?;
+impl Made<'_, '_> {
+    // Hands over the texts of the pieces. Conditions: all are made, and the words have k bases.
+    fn hand_over<W: Sink, H>(&self, form: &Form<'_, H>, writer: &mut W) -> Result<(), Failed>
+        requires below { All (All (λ row. row.word < 4 ^ form.now.k)) self.now.pieces.now }
+        requires all { length self.now.pieces.now ≤ length self.now.texts.now }
+        requires made { AreTextsOf form.now.k form.now.dump.now self.now.pieces.now self.now.texts.now }
+        ensures { HandsOver (W.seen writer.old) (W.seen writer.new) result
+            (dump_text form.now.k form.now.dump.now (flat_map (λ piece. piece) self.now.pieces.now)) }
+    {
+        for i in 0..self.pieces.len() {
+            hand_over_text(writer, &self.pieces[i], &self.texts[i], form.k, form.dump)?;
+        }
+        Ok(())
     }
-    Ok(())
 }
 
 // Hands over the text of a piece; if it isn't whole, it is made without memory.

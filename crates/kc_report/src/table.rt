@@ -39,8 +39,8 @@ pub fn write_table<W: Sink>(
 }
 
 /// Writes the table text of a tally as `write_table` does. So many threads make the texts of neighbouring rows in
-/// parallel, each at most 8 MB at a time. If memory for that is refused, the text is made without it. Conditions: those
-/// of `write_table`.
+/// parallel, each at most 8 MB at a time, while this thread writes the texts that they made before. If memory for that
+/// is refused, the text is made without it. Conditions: those of `write_table`.
 ///
 /// # Errors
 /// `Write` if the writer failed or took no byte. It took a beginning of the text.
