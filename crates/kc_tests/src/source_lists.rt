@@ -191,6 +191,43 @@ fn the_first_faulty_source_is_told(rt: HostRuntime) -> Result<(), Fail> {
     Ok(())
 }
 
+// So many reads that some are cut while others are read, with a rest behind them. They have three, four or five bases
+// in turn: `ACG`, `ACGT`, `ACGTT`.
+fn many_reads(alloc: Global, count: usize, rest: &str) -> Result<Vec<u8>, AllocError> {
+    let mut text = Vec::new(alloc);
+    for i in 0..count {
+        text.extend_from_slice(b">r\n")?;
+        text.extend_from_slice(&b"ACGTT"[..3 + i % 3])?;
+        text.push(b'\n')?;
+    }
+    text.extend_from_slice(rest.as_bytes())?;
+    Ok(text)
+}
+
+// The dump of 70,000 of them: two thirds have a `CGT`, and one third a `GTT`.
+const MANY_WORDS: &[u8] = b"ACG 70000\nCGT 46666\nGTT 23333\n";
+
+// No read is lost or cut twice, and a fault behind them has its line, whatever the threads.
+#[test]
+fn many_reads_are_cut_while_others_are_read(rt: HostRuntime) -> Result<(), Fail> {
+    let alloc = rt.alloc();
+    let good = many_reads(alloc, 70_000, "")?;
+    let faulty = many_reads(alloc, 70_000, ">r\nA C\n")?;
+    let told = Err(fault_of(1, FastxFault::BadBase(140_002)));
+    for workers in 1..4 {
+        let options = columns(3)?.with_workers(workers);
+        let mut sources = Vec::new(alloc);
+        sources.push(FromBytes::new(&good))?;
+        let counted = counted_of(&rt, alloc, None::<FromBytes>, sources, &options);
+        assert_counted(&rt, workers as usize, &counted, &Ok(()), MANY_WORDS);
+        let mut sources = Vec::new(alloc);
+        sources.push(FromBytes::new(&faulty))?;
+        let counted = counted_of(&rt, alloc, None::<FromBytes>, sources, &options);
+        assert_counted(&rt, workers as usize, &counted, &told, b"");
+    }
+    Ok(())
+}
+
 // Counts the words of a source that gives one byte at a time and fails at its n-th read.
 fn count_slowly<H: Threads + Wait + Sync + AllocGlobal>(
     rt: &H,

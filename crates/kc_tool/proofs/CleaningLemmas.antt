@@ -15,6 +15,7 @@ use Rattle.kc_kmer.specs.Rule.{CountingRule}
 use Rattle.kc_word.proofs.Cleaning.{length-cleaned}
 use Rattle.kc_tool.specs.GivenSources.{ReadsAt}
 use Rattle.kc_command.specs.Settings.{Settings}
+use Rattle.kc_tool.specs.ReadAhead.{TakesReads}
 use Rattle.kc_tool.specs.Tallies.{CutsNext, CutsSources, FailsAt, RefusesSource, RefusesSources, pieces_of}
 use Rattle.kc_tool.specs.declared.counted_sources.ReadsInCutting.{ReadsInCutting}
 use Rattle.kc_tool.specs.declared.tool_faults.ToolFault.{ToolFault}
@@ -163,49 +164,53 @@ all_cut {old} {new} {rule = rule} {cut = cut} r all = record {
   few = omega (arith, r.few);
 }
 
--- A cutting took one more piece.
-pub record TakesPiece (old new : OpenCutting) (piece : List ℕ) : Type 0 where
-  pub length_of_words : new.k ≡ old.k
-  pub size : new.size ≡ old.size
-  pub more : (pieces : List (List ℕ)) → HasTaken old pieces → HasTaken new (pieces ++ piece ∷ [])
-
--- A source was read so far: the pieces of its reads were cut after those that were cut before.
+-- A source was read so far: the pieces of its reads were cut after those that were cut before, except for those of the
+-- last reads, which wait.
 pub record PiecesSoFar (start now : Seen) (limit : ℕ) (rule : CountingRule) (before cutting : OpenCutting)
-    (stand : Stand) (count : ℕ) : Type 0 where
+    (stand : Stand) (count : ℕ) (waiting : List Read) : Type 0 where
   pub reads : List Read
-  pub given : HasGiven start now limit reads stand
-  pub counted : count ≡ length reads
+  pub given : HasGiven start now limit (reads ++ waiting) stand
+  pub counted : count ≡ length (reads ++ waiting)
   pub few : count ≤ stand.used
-  pub length_of_words : cutting.k ≡ before.k
-  pub size : cutting.size ≡ before.size
-  pub behind : (pieces : List (List ℕ)) → HasTaken before pieces → HasTaken cutting (pieces ++ pieces_of rule reads)
+  pub cut : TakesReads rule reads before cutting
 
 pub no_piece : (start : Seen) (limit : ℕ) (rule : CountingRule) (before : OpenCutting)
-    → PiecesSoFar start start limit rule before before (first_stand limit) 0
+    → PiecesSoFar start start limit rule before before (first_stand limit) 0 []
 no_piece start limit rule before = record {
   reads = [];
   given = given_none start limit;
   counted = refl;
   few = omega arith;
-  length_of_words = refl;
-  size = refl;
-  behind = λ pieces taken. subst (HasTaken before) (sym (append-nil pieces)) taken;
+  cut = record {
+    length_of_words = refl;
+    size = refl;
+    behind = λ pieces taken. subst (HasTaken before) (sym (append-nil pieces)) taken;
+  };
 }
 
-pub one_more_piece : {start old now : Seen} {limit : ℕ} {rule : CountingRule} {before cutting after : OpenCutting}
-    {stand next : Stand} {count : ℕ} (read : Read) → (r : PiecesSoFar start old limit rule before cutting stand count)
-    → HasGiven start now limit (r.reads ++ read ∷ []) next → stand.used < next.used
-    → TakesPiece cutting after (cleaned rule read) → PiecesSoFar start now limit rule before after next (count + 1)
-one_more_piece {rule = rule} {after = after} read r given used takes =
-    let more = cleaned rule read ∷ [] in
-    record {
-      reads = r.reads ++ read ∷ [];
-      given = given;
-      counted = omega (arith, r.counted, length-append r.reads (read ∷ []));
-      few = omega (arith, r.few, used);
-      length_of_words = takes.length_of_words ∙ r.length_of_words;
-      size = takes.size ∙ r.size;
-      behind = λ pieces taken. subst (HasTaken after) (append_assoc pieces (pieces_of rule r.reads) more
-          ∙ ap (λ v. pieces ++ v) (sym (pieces_of-append rule r.reads (read ∷ []))))
-          (takes.more (pieces ++ pieces_of rule r.reads) (r.behind pieces taken));
-    }
+-- More reads were cut after others.
+pub takes_both : {rule : CountingRule} (reads more : List Read) {before cutting after : OpenCutting}
+    → TakesReads rule reads before cutting → TakesReads rule more cutting after
+    → TakesReads rule (reads ++ more) before after
+takes_both {rule} reads more {after = after} first second = record {
+  length_of_words = second.length_of_words ∙ first.length_of_words;
+  size = second.size ∙ first.size;
+  behind = λ pieces taken. subst (HasTaken after) (append_assoc pieces (pieces_of rule reads) (pieces_of rule more)
+      ∙ ap (λ v. pieces ++ v) (sym (pieces_of-append rule reads more)))
+      (second.behind (pieces ++ pieces_of rule reads) (first.behind pieces taken));
+}
+
+-- The reads that waited were cut, and others came.
+pub more_pieces : {start old now : Seen} {limit : ℕ} {rule : CountingRule} {before cutting after : OpenCutting}
+    {stand next : Stand} {count : ℕ} {waiting : List Read} (more : List Read)
+    → (r : PiecesSoFar start old limit rule before cutting stand count waiting)
+    → TakesReads rule waiting cutting after → HasGiven start now limit ((r.reads ++ waiting) ++ more) next
+    → stand.used + length more ≤ next.used
+    → PiecesSoFar start now limit rule before after next (count + length more) more
+more_pieces {waiting = waiting} more r takes given used = record {
+  reads = r.reads ++ waiting;
+  given = given;
+  counted = omega (arith, r.counted, length-append (r.reads ++ waiting) more);
+  few = omega (arith, r.few, used);
+  cut = takes_both r.reads waiting r.cut takes;
+}

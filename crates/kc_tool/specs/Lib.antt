@@ -13,6 +13,7 @@ pub mod Outputs
 pub mod PairSelections
 pub mod Process
 pub mod Progress
+pub mod ReadAhead
 pub mod Reports
 pub mod Selections
 pub mod Tallies

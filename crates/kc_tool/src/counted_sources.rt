@@ -27,16 +27,18 @@ ghost use Rattle.kc_command.specs.Settings.{Settings, rule_of};
 
 use crate::count_progress::Progress;
 use crate::given_sources::{GivenSources, ReadsSource};
+use crate::read_ahead::{Cutter, ReadBuffer, Reader, cut_all};
 use crate::reported::Reported;
 use crate::tool_faults::ToolFault;
 use kc_command::Options;
-use kc_fastx::{FastxFault, Reading, Source, read_all};
+use kc_fastx::{FastxFault, Source, read_all};
 use kc_hash::Hash;
 use kc_report::Origin;
 use kc_run::{quotient_tables, run};
 use kc_stripe::Setup;
-use kc_word::{Batch, Cutting, Only, Rule, clean};
+use kc_word::{Batch, Cutting, Only, Rule};
 use std::alloc::{AllocError, Global};
+use std::mem::swap;
 use std::sync::{Arc, Wait};
 use std::thread::Threads;
 
@@ -116,7 +118,7 @@ pub(crate) fn count_given<
         alloc,
         progress,
     } = *means;
-    let (batches, origin) = batches_given(alloc, &list, options, sources, progress)?;
+    let (batches, origin) = batches_given(means, &list, options, sources)?;
     progress.counting_begins(batches.len() as u64);
     let setup = setup_of(alloc, list, options)?;
     let tables = quotient_tables(alloc, &setup, options.size())?;
@@ -138,12 +140,11 @@ pub(crate) fn reader_lacks_memory(fault: &ToolFault) -> bool
 // The batches of the reads of the sources, in order, and the origin of a count of them. They have as many positions as
 // the options ask for, and more if a list is long: each booking of a batch compares the lists, and so this takes little
 // time compared with counting. A fault is one of `cut_given`.
-fn batches_given<R: Source, F: Source, P: Progress>(
-    alloc: Global,
+fn batches_given<H: Threads, R: Source, F: Source, P: Progress>(
+    means: &Means<'_, H, P>,
     list: &Option<Only>,
     options: &Options,
     sources: &mut GivenSources<'_, '_, '_, R, F>,
-    progress: &P,
 ) -> Result<(Vec<Arc<Batch>>, Origin), ToolFault>
     ensures cut { let Cuts = CutsBatches (seen_in R.seen F.seen sources.old) (seen_in R.seen F.seen sources.new) in
         IfOk result (λ cut. Cuts options.now (words_of list.now) (values cut.0.items) cut.1) }
@@ -162,12 +163,14 @@ fn batches_given<R: Source, F: Source, P: Progress>(
     let size = wanted.max(options.batch());
     let rule = options.rule();
     let cutter = Cutter {
-        alloc,
+        rt: means.rt,
+        alloc: means.alloc,
+        threads: options.workers(),
         rule: &rule,
-        progress,
+        progress: means.progress,
     };
     let (cutting, reads) = cut_given(&cutter, sources, size)?;
-    let batches = cutting.finish(alloc)?;
+    let batches = cutting.finish(means.alloc)?;
     // for the proof: facts about a length
     let _bases = rule.k().get();
     let origin = Origin {
@@ -179,11 +182,11 @@ fn batches_given<R: Source, F: Source, P: Progress>(
 }
 
 // The cutting of the reads of the sources, in order, into batches of `size` positions, and how many reads there are.
-// Each source is read whole before the next one, and each read is cleaned and cut before the next one is read, so only
-// the text of one read is in memory at a time. A fault is that of the first source that has one, with its number from
+// Each source is read whole before the next one. Some reads are cut while the next ones are read, so the text of only
+// two buffers of reads is in memory at a time. A fault is that of the first source that has one, with its number from
 // 1, or `Memory` if a growth was refused outside the reading. Condition: the size is at least 1.
-fn cut_given<R: Source, F: Source, P: Progress>(
-    cutter: &Cutter<'_, P>,
+fn cut_given<H: Threads, R: Source, F: Source, P: Progress>(
+    cutter: &Cutter<'_, H, P>,
     sources: &mut GivenSources<'_, '_, '_, R, F>,
     size: u64,
 ) -> Result<(Cutting, u64), ToolFault>
@@ -206,15 +209,7 @@ fn cut_given<R: Source, F: Source, P: Progress>(
     Ok((cut.cutting, cut.reads))
 }
 
-// How sources are read for a cutting: with this memory, under this rule; and who is notified of the bytes that come.
-#[derive(Drop)]
-struct Cutter<'a, P: Progress> {
-    alloc: Global,
-    rule: &'a Rule,
-    progress: &'a P,
-}
-
-impl<P: Progress> ReadsSource<ReadsInCutting> for Cutter<'_, P> {
+impl<H: Threads, P: Progress> ReadsSource<ReadsInCutting> for Cutter<'_, H, P> {
     type Gives = ();
 
     ghost use Rattle.kc_tool.specs.Tallies.{MayCutNext, CutsNextOrRefuses};
@@ -228,7 +223,7 @@ impl<P: Progress> ReadsSource<ReadsInCutting> for Cutter<'_, P> {
         source: &mut R,
         state: &mut ReadsInCutting,
     ) -> Result<(), ToolFault> {
-        state.take(self.alloc, source, self.rule, self.progress)
+        state.take(self, source)
     }
 }
 
@@ -245,56 +240,57 @@ struct ReadsInCutting {
 }
 
 impl ReadsInCutting {
-    // Reads the next source whole, and cuts the pieces of its reads after those that were cut. It reports the bytes
-    // that came, read by read. A fault is that of the source, with its number, and a fault of the lines is returned
-    // only after the rest was read.
-    fn take<R: Source, P: Progress>(
+    // Reads the next source whole, and cuts the pieces of its reads after those that were cut. A fault is that of the
+    // source, with its number, and a fault of the lines is returned only after the rest was read.
+    fn take<H: Threads, R: Source, P: Progress>(
         &mut self,
-        alloc: Global,
+        cutter: &Cutter<'_, H, P>,
         source: &mut R,
-        rule: &Rule,
-        progress: &P,
     ) -> Result<(), ToolFault>
         requires few { self.old.reads + self.old.left ≤ most_bytes }
         requires numbered { self.old.sources < u64.MAX }
-        ensures next { OnOk result (CutsNext (R.seen source.old) (R.seen source.new) rule.now self.old self.new) }
+        ensures next { OnOk result
+            (CutsNext (R.seen source.old) (R.seen source.new) cutter.now.rule.now self.old self.new) }
         ensures fault { IfErr result
             (RefusesSource (R.seen source.old) (R.seen source.new) (self.old.sources + 1) self.old.left) }
     {
         self.sources += 1;
         let number = self.sources;
-        let Ok(mut reading) = Reading::new(alloc, self.left) else {
+        let alloc = cutter.alloc;
+        let Ok(mut reader) = Reader::new(alloc, self.left) else {
             return Err(ToolFault::Fastx {
                 source: number,
                 fault: FastxFault::Memory,
             });
         };
-        let mut told = 0u64;
+        let mut front = ReadBuffer::new(alloc);
+        let mut back = ReadBuffer::new(alloc);
         let mut count = 0u64;
         'reads: loop {
-            let read = match reading.next_read(alloc, source) {
-                Ok(read) => read,
+            let cutting = &mut self.cutting;
+            let more = match cutter.cut_and_read(
+                cutting,
+                &mut front,
+                &mut reader,
+                source,
+                &mut back,
+            )? {
+                Ok(more) => more,
                 Err(fault) => {
                     return Err(ToolFault::Fastx {
                         source: number,
-                        fault: reading.settle(source, fault),
+                        fault: reader.reading.settle(source, fault),
                     });
                 }
             };
-            let bytes = reading.byte_count();
-            let taken = reading.taken_count();
-            if told < taken {
-                progress.bytes_read(taken - told);
-                told = taken;
-            }
-            let Some(read) = read else {
-                self.left -= bytes;
+            count += back.reads.len() as u64;
+            if !more {
+                cut_all(alloc, cutter.rule, &back.reads, &mut self.cutting)?;
+                self.left -= reader.reading.byte_count();
                 self.reads += count;
                 return Ok(());
-            };
-            let piece = clean(alloc, &read, rule)?;
-            self.cutting.push(alloc, &piece)?;
-            count += 1;
+            }
+            swap(&mut front, &mut back);
         }
     }
 }

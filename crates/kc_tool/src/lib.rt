@@ -42,6 +42,7 @@ mod outputs;
 mod paired_sources;
 mod pairs_writers;
 mod process;
+mod read_ahead;
 pub mod report_laws;
 mod reported;
 mod reports;

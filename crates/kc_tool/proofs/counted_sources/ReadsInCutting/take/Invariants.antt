@@ -1,4 +1,4 @@
-use Rattle.std.proofs.Common.{◌≡◌, ◌+◌, ◌-◌}
+use Rattle.std.proofs.Common.{◌≡◌, ◌+◌, ◌-◌, []}
 use Rattle.kc_tool.proofs.CleaningLemmas.{PiecesSoFar}
 use Rattle.kc_tool.proofs.counted_sources.ReadsInCutting.take.Given as goal
 
@@ -6,11 +6,13 @@ abbrev pub invariant-reads : goal.invariant-reads
 invariant-reads g l =
     let seen = g.R.Source.seen in
     record {
-      so_far : PiecesSoFar (seen l.fn.source) (seen l.source) l.fn.self.left l.rule l.fn.self.cutting l.self.cutting l.reading l.count;
+      so_far : PiecesSoFar (seen l.fn.source) (seen l.source) l.fn.self.left l.cutter.rule.now l.fn.self.cutting l.self.cutting
+          l.reader.reading l.count l.front.reads.items;
+      empty : l.back.reads.items ≡ [];
       left : l.self.left ≡ l.fn.self.left;
       sources : l.self.sources ≡ l.fn.self.sources + 1;
       reads : l.self.reads ≡ l.fn.self.reads;
     }
 
 abbrev pub decreases-reads : goal.decreases-reads
-decreases-reads g l = l.fn.self.left - l.reading.used
+decreases-reads g l = l.fn.self.left - l.reader.reading.used
