@@ -1,4 +1,4 @@
-use Rattle.std.proofs.Common.{◌≡◌, ◌∙◌, ◌-◌, ◌+◌, ◌++◌, ◌≤◌, length, length-append, refl, sym, subst, arith, ap}
+use Rattle.std.proofs.Common.{◌≡◌, ◌-◌, ◌+◌, ◌++◌, length, length-append, refl, subst, arith, ap}
 use Rattle.kc_fastx.proofs.ReadingLemmas.{used_within, begun_in_vain}
 use Rattle.kc_tool.specs.ReadAhead.{TakesReads}
 use Rattle.kc_tool.proofs.ReadCountLemmas.{read_count-gives}

@@ -1,4 +1,4 @@
-use Rattle.std.proofs.Common.{◌≡◌, ◌+◌, ◌≤◌, ◌++◌, ◌∷◌, [], ap, sym, subst, append_assoc, append-nil, length-append, arith, length}
+use Rattle.std.proofs.Common.{◌++◌, ◌∷◌, [], ap, sym, subst, append_assoc, append-nil, length-append, arith, length}
 use Rattle.kc_fastx.specs.Reading.{HasGiven}
 use Rattle.kc_tool.proofs.read_ahead.Reader.read_some.Goals as goal
 
