@@ -190,18 +190,31 @@ impl Slots {
         Ok(entries)
     }
 
-    // How many keys have a count of at least 1.
+    // How many keys have a count of at least 1. No branch depends on whether a slot is empty, since that can't be
+    // predicted.
     fn entry_count(&self) -> usize
         ensures { result ≡ length (counted_entries self.now) }
     {
         let mut counted = 0;
         for index in 0..1 << self.log {
-            let Some(_) = self.entry(index) else {
-                continue;
-            };
-            counted += 1;
+            if self.is_counted(index) {
+                counted += 1;
+            }
         }
         counted
+    }
+
+    // Whether the key in a slot has a count of at least 1.
+    #[inline(always)]
+    fn is_counted(&self, index: usize) -> bool
+        requires { index < 2 ^ self.now.log }
+        ensures yes { result ≡ true → (key : ℕ) × (count : ℕ)
+            × Holds (slot_list self.now) index key count × (1 ≤ count) }
+        ensures no { result ≡ false → (key count : ℕ) → Holds (slot_list self.now) index key count → count ≡ 0 }
+    {
+        let tag = self.slots.tag(index);
+        let has_key = tag.number != 0;
+        has_key & (self.slots.count(index) != 0)
     }
 
     // The key in a slot and its count, if that is at least 1.
