@@ -1,6 +1,16 @@
-use Rattle.std.proofs.Common.{◌++◌, ◌∷◌, [], ap, sym, subst, append_assoc, append-nil, length-append, arith, length}
-use Rattle.kc_fastx.specs.Reading.{HasGiven}
+use Rattle.std.proofs.Common.{◌≡◌, ◌∙◌, ℕ, List, ◌++◌, ◌∷◌, [], ap, sym, subst, append_assoc, append-nil, length-append, arith, length}
+use Rattle.kc_io.specs.Sources.{Seen}
+use Rattle.kc_fastx.specs.Reads.{Read}
+use Rattle.kc_fastx.specs.Reading.{HasGiven, Stand}
 use Rattle.kc_tool.proofs.read_ahead.Reader.read_some.Goals as goal
+
+-- A read that was given after the reads of a buffer, which was then appended to them.
+given_behind : {start now : Seen} {limit : ℕ} {stand : Stand} (reads front : List Read) {items : List Read} (read : Read)
+    → items ≡ front ++ read ∷ [] → HasGiven start now limit ((reads ++ front) ++ read ∷ []) stand
+    → HasGiven start now limit (reads ++ items) stand
+given_behind {start} {now} {limit} {stand} reads front read are given =
+    subst (λ v. HasGiven start now limit v stand)
+    (append_assoc reads front (read ∷ []) ∙ ap (λ v. reads ++ v) (sym are)) given
 
 pub loop-init : goal.loop-init
 loop-init g c =
@@ -39,9 +49,7 @@ returns-then-is_full g c =
       given = λ start limit reads given.
           let next = rw c.in-Some.is at c.in-Ok.ensures.given start limit (reads ++ c.loop.buffer.reads.items)
           (c.loop.invariant.given start limit reads given) in
-          rw (c.report.ensures, c.in_ok-push.ensures)
-          (subst (λ v. HasGiven start (g.R.Source.seen c.next_read.new.source) limit v c.next_read.new.self)
-          (append_assoc reads c.loop.buffer.reads.items (c.in-Some.read ∷ [])) next);
+          rw c.report.ensures (given_behind reads c.loop.buffer.reads.items c.in-Some.read c.in_ok-push.ensures next);
       used = rw c.report.ensures (omega (arith, more, long, pushed, c.loop.invariant.used));
       some = λ is. omega (arith, long, pushed);
     }
@@ -62,9 +70,7 @@ loop-preserved g c =
       given = λ start limit reads given.
           let next = rw c.in-Some.is at c.in-Ok.ensures.given start limit (reads ++ c.loop.buffer.reads.items)
           (c.loop.invariant.given start limit reads given) in
-          rw (c.report.ensures, c.in_ok-push.ensures)
-          (subst (λ v. HasGiven start (g.R.Source.seen c.next_read.new.source) limit v c.next_read.new.self)
-          (append_assoc reads c.loop.buffer.reads.items (c.in-Some.read ∷ [])) next);
+          rw c.report.ensures (given_behind reads c.loop.buffer.reads.items c.in-Some.read c.in_ok-push.ensures next);
       used = rw c.report.ensures (omega (arith, more, long, pushed, c.loop.invariant.used));
       counted = omega (arith, long, pushed, c.loop.invariant.counted);
     }
