@@ -78,8 +78,8 @@ pub fn write_dump<W: Sink>(writer: &mut W, tally: &Tally, dump: &Dump) -> Result
 }
 
 /// Writes the dump of a tally as `write_dump` does. So many threads make the texts of neighbouring rows in parallel,
-/// each at most 8 MB at a time, while this thread writes the texts that they made before. If memory for that is refused,
-/// the text is made without it.
+/// each at most 8 MB at a time, while this thread writes the texts that they made before. If memory for that is
+/// refused, the text is made without it.
 ///
 /// # Errors
 /// `Write` if the writer failed or took no byte. It took a beginning of the dump.

@@ -142,8 +142,8 @@ impl Reader {
     }
 }
 
-/// How sources are read for a cutting: with this memory, under this rule, in another thread if there may be two; and who
-/// is notified of the bytes that come.
+/// How sources are read for a cutting: with this memory, under this rule, by two threads if there may be so many; and
+/// who is notified of the bytes that come.
 #[derive(Drop)]
 pub(crate) struct Cutter<'a, H: Threads, P: Progress> {
     /// The runtime.
