@@ -23,7 +23,8 @@ printf 'KCT 2 3 c a 33 2\nAAA 4\nGTA 1\nEND 2 5\n' > "$work/second.kct"
 written_rightly() {
     [ ! -s "$work/got" ] || { [ "$1" = select ] && cmp -s -n "$(wc -c < "$work/got")" "$work/got" "$work/wanted"; }
 }
-# Refuses one growth after the other of a command line on this input, until twenty in a row are not missed. These
+# Refuses one growth after the other of a command line on this input, or those with the numbers in `growths`, until
+# twenty in a row are not missed. These
 # numbers have to be met among the answers, and no others but that of a thread, and that of a file whose name found no
 # room.
 refuse_growths() {
@@ -33,7 +34,7 @@ refuse_growths() {
     allowed+='|kcount: 54: cannot open .*|Error: .*'
     printf '%s' "$wanted" > "$work/wanted"
     : > "$work/answers"
-    for n in $(seq 1 2000); do
+    for n in ${growths:-$(seq 1 2000)}; do
         status=0
         REFUSE=$n LD_PRELOAD="$work/refuse.so" "$kcount" "$@" > "$work/got" 2> "$work/said" < "$input" || status=$?
         if [ "$status" = 0 ]; then
@@ -58,6 +59,11 @@ refuse_growths() {
 count=(count -m 3 -C --batch 2 --min-qual-char '#' --print dump --column)
 refuse_growths 'a count of FASTA' $'ACG 2\nGTA 1\n' '8 34 46' "$work/reads.fa" "${count[@]}"
 refuse_growths 'a count of FASTQ' $'ACG 2\nGTA 1\n' '8 34 46' "$work/reads.fq" "${count[@]}"
+# So many reads that one thread cleans and cuts some while the other reads the next ones. Of their growths, about one
+# for each 2,000 is refused.
+for _ in $(seq 1 40000); do echo '>r'; echo 'ACGT'; done > "$work/many.fa"
+growths=$(seq 1 1999 1000000) refuse_growths 'a count of many reads by two threads' $'ACG 80000\n' '8 46' "$work/many.fa" \
+    count -m 3 -C -t 2 --print dump --column
 refuse_growths 'a count of listed k-mers' $'ACG 2\n' '8 34 46' "$work/reads.fq" "${count[@]}" --only "$work/list.fa"
 refuse_growths 'a merge' $'KCT 2 3 c a 33 3\nAAA 4\nACG 2\nGTA 2\nEND 3 8\n' 46 /dev/null \
     merge "$work/first.kct" "$work/second.kct"
