@@ -37,6 +37,7 @@ tests/documents.py
 tests/judging.py
 tools/check_edits.py
 touch "$work/ci"
+: > "$work/edits"
 tools/edits.py --kept "$work/kept" --beside "$work/ci" > "$work/edits" 2>&1 &
 edits=$!
 tail -f --pid="$edits" "$work/edits" &
