@@ -11,9 +11,9 @@ use std::alloc::{AllocError, Global};
 use std::thread::{Threads, join_mut};
 
 // So many reads are taken at a time, or fewer if they have so many bases.
-const AHEAD_READS: usize = 1 << 15;
+const AHEAD_READS: usize = 1 << 13;
 
-const AHEAD_BASES: usize = 1 << 20;
+const AHEAD_BASES: usize = 1 << 18;
 
 // A read of at most so many bases leaves its memory to others.
 const SHORT_BASES: usize = 1 << 10;
