@@ -1,7 +1,7 @@
 #!/bin/bash
 # Refuses each growth in turn, and looks at what is answered:
 #   tests/memory.sh
-# Each run of the program, a count over FASTA, over FASTQ and of listed k-mers, a merge, an intersection, a histogram,
+# Each run of the program, a count over FASTA, over FASTQ, by two threads and of listed k-mers, a merge, an intersection, a histogram,
 # statistics and a query of a table, a selection of reads and two of pairs, either does without that growth and writes all that it should,
 # or writes nothing (a selection the reads before), says on standard error that there is no memory, and ends with status
 # 1. Tickets, a growing table, a stripe and a gathering are asked the same by a test. It needs bin/kcount, the crates of
@@ -24,9 +24,8 @@ written_rightly() {
     [ ! -s "$work/got" ] || { [ "$1" = select ] && cmp -s -n "$(wc -c < "$work/got")" "$work/got" "$work/wanted"; }
 }
 # Refuses one growth after the other of a command line on this input, or those with the numbers in `growths`, until
-# twenty in a row are not missed. These
-# numbers have to be met among the answers, and no others but that of a thread, and that of a file whose name found no
-# room.
+# twenty in a row are not missed. These numbers have to be met among the answers, and no others but that of a thread,
+# and that of a file whose name found no room.
 refuse_growths() {
     local what=$1 wanted=$2 numbers=$3 input=$4 refused=0 passed=0 n number status
     shift 4
