@@ -2,7 +2,7 @@
 # Tables of ROWS rows (14 million) that are combined and written to a file: `kcount merge` of two and of eight tables, `intersect` and
 # `subtract` of two, beside `kmc_tools` with a sorted dump, and beside `jellyfish merge` of two with `dump -c` and `sort`; and `compare` of
 # two, beside what gives its numbers by `kmc_tools`, three times `simple`; all in one run, each once a round. The targets are 0.6 of KMC's
-# time (0.4 of it for `compare`), and 0.3 of Jellyfish's.
+# time (0.4 of it for `compare`), and 0.3 of Jellyfish's. A C program combines two tables in the same two passes.
 #   bench/combine.sh
 # The tables are of words of length 21 on both strands, of two random sequences each, of which each shares one with the table before it. They
 # are not measured. What the tools write is compared, but for `compare`. (Debian's `kmc_tools complex` stops with an error, so eight tables have no peer.)
@@ -14,6 +14,7 @@ kcount=$top/bin/kcount
 [ -x "$kcount" ] || fail "no bin/kcount: run make build first"
 command -v /usr/bin/time > "$work/which" || fail "no /usr/bin/time: apt-get install time"
 "${CC:-cc}" -O2 -o "$work/reads" "$bench/c/reads.c"
+c_program combine
 k=21
 rows=${ROWS:-14000000}
 most=1000000000
@@ -66,8 +67,14 @@ compare_kmc() {
     kmc_tools -t1 simple "$work/2.kmc" "$work/1.kmc" kmers_subtract "$work/out.kmc"
     kmc_tools -t1 simple "$work/1.kmc" -ci2 "$work/2.kmc" intersect "$work/out.kmc" -ocleft
 }
-export kcount k most work
-export -f dump_kmc simple_kmc {merge,intersect,subtract,compare}_{kcount,kmc} merge8_kcount merge_jellyfish
+merge_c() { "$plain" merge "$work"/[12].kct "$work/out.c"; }
+intersect_c() { "$plain" intersect "$work"/[12].kct "$work/out.c"; }
+subtract_c() { "$plain" subtract "$work"/[12].kct "$work/out.c"; }
+export kcount k most work plain
+export -f dump_kmc simple_kmc {merge,intersect,subtract,compare}_{kcount,kmc} merge8_kcount merge_jellyfish {merge,intersect,subtract}_c
+
+# the rows of a table and its end line
+rows_of() { tail -n +2 "$1"; }
 
 # shellcheck disable=SC2086
 tools=$(with_peers ${PEERS:-jellyfish kmc})
@@ -76,14 +83,18 @@ prepared make $tools
 echo "| Tool | What | Wall | Processor | Peak | kcount's wall to it | Target |"
 echo "|---|---|---|---|---|---|---|"
 for what in merge merge8 intersect subtract compare; do
-    case $what in merge) peers=$tools ;; merge8) peers=kcount ;; *) peers=${tools/ jellyfish/} ;; esac
+    case $what in merge) peers="$tools c" ;; merge8) peers=kcount ;; compare) peers=${tools/ jellyfish/} ;; *) peers="${tools/ jellyfish/} c" ;; esac
     # shellcheck disable=SC2086
     in_rounds $what $peers
     for tool in $peers; do
-        case $what-$tool in *-jellyfish) target=0.3 ;; compare-*) target=0.4 ;; *) target=0.6 ;; esac
-        tool_row $what "$tool" $what $target
+        case $what-$tool in *-c) target= ;; *-jellyfish) target=0.3 ;; compare-*) target=0.4 ;; *) target=0.6 ;; esac
+        tool_row $what "$tool" $what "$target"
         [ $what != compare ] || continue
         [ "$tool" != kcount ] || "$kcount" dump -c -o "$work/text.kcount" "$work/out.kct"
+        if [ "$tool" = c ]; then
+            cmp -s <(rows_of "$work/out.c") <(rows_of "$work/out.kct") || fail "what the C program writes for $what is another table"
+            continue
+        fi
         tr '\t' ' ' < "$work/text.$tool" | cmp -s - "$work/text.kcount" || fail "what $tool writes for $what is another"
     done
 done

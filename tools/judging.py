@@ -18,7 +18,7 @@ from dataclasses import dataclass
 PUB = r"(?:pub(?:\(\w+\))? )?"
 # What the checker says of a proof that names what is not there (an edit may have taken it away).
 NAMES = r"is not in scope|has no field|has no `|was not admitted|is no name"
-# What `rt ci` says once it has proved a crate, or has given back what an earlier run proved.
+# What `rt ci` says once it has proved a crate, or has given back what an earlier run proved (some versions do).
 PROVED = r"(?m)^rt: {}( proved$| is kept: )"
 
 

@@ -1,9 +1,9 @@
 -- The rows of a table turned into the rows of a stripe: words in place of keys.
-use Rattle.std.proofs.Common.{◌≡◌, ◌≢◌, ℕ, ◌+◌, ◌*◌, ◌<◌, ◌≤◌, ◌^◌, ◌⊎◌, inl, inr, true, false, cond, eqb, nat_eq, List, [], ◌∷◌, ◌++◌, length, get_or, take, map, count_by, All, Contains, Some, unwrap_or, refl, ap, sym, ◌∙◌, subst, arith, ⊎_elim}
+use Rattle.std.proofs.Common.{◌≡◌, ◌≢◌, ℕ, ◌+◌, ◌*◌, ◌<◌, ◌≤◌, ◌^◌, ◌⊎◌, inl, inr, true, false, cond, eqb, nat_eq, List, [], ◌∷◌, ◌++◌, length, get_or, take, drop, map, count_by, All, Contains, Some, unwrap_or, refl, ap, sym, ◌∙◌, subst, arith, ⊎_elim}
 use Rattle.std.specs.List.{AllByRecursion, IsDistinct}
 use Rattle.std.specs.FinMap.{get}
 use Rattle.std.proofs.lemmas.Bool.{eq-eqb, ne_eqb, cases_eq}
-use Rattle.std.proofs.lemmas.List.{map_push, take_more}
+use Rattle.std.proofs.lemmas.List.{append-nil, drop_all, take_all}
 use Rattle.std.proofs.lemmas.List.Elements.{All-map, All-head, All-tail}
 use Rattle.std.proofs.lemmas.Map.Keys.{IsDistinct-cons, IsDistinct-head, IsDistinct-tail}
 use Rattle.kc_lemmas.proofs.Lists.{Contains-cons_cases}
@@ -16,21 +16,23 @@ use Rattle.kc_tally.specs.Tally.{count_of}
 use Rattle.kc_tally.specs.Histogram.{last_bin, bin_of, bin_at, bin_size, bins_of}
 use Rattle.kc_tally.proofs.Bins.{bin_at-bins_of}
 use Rattle.kc_booking.specs.Setup.{StripeSetup, HasBits, word_count, stripe_count, key_bits, stripe_of, key_of, stripe_words, StandsAt, DividesWords}
-use Rattle.kc_booking.specs.Stripe.{word_occurrences, stripe_occurrences, AreStripeRows}
+use Rattle.kc_booking.specs.Stripe.{word_occurrences, stripe_occurrences, row_of_pair, AreStripeRows}
 use Rattle.kc_booking.proofs.HashValues.{StandsAt-undone}
 use Rattle.kc_booking.proofs.Lawful.{CountsWords}
 
--- the word of a key, and the row of a word, by the inverse of the hash
+-- the word of a key by the inverse of the hash, an entry with the word in place of the key, and its row
 abbrev pub word_under : StripeSetup → List ℕ → ℕ → ℕ → ℕ
 word_under setup inverse number key = product inverse (key * stripe_count setup + number)
 
-abbrev pub row_of : StripeSetup → List ℕ → ℕ → ℕ × ℕ → Row
-row_of setup inverse number entry = record { word = word_under setup inverse number entry.0; count = entry.1 }
+abbrev pub with_word : StripeSetup → List ℕ → ℕ → ℕ × ℕ → ℕ × ℕ
+with_word setup inverse number entry = (word_under setup inverse number entry.0, entry.1)
 
-pub rows-more : (row : ℕ × ℕ → Row) (entries : List (ℕ × ℕ)) (rows : List Row) (i : ℕ) (d : ℕ × ℕ) → i < length entries → rows ≡ map row (take i entries)
-    → rows ++ row (get_or entries i d) ∷ [] ≡ map row (take (i + 1) entries)
-rows-more row entries rows i d within so_far =
-    ap (λ xs. xs ++ row (get_or entries i d) ∷ []) so_far ∙ sym (ap (map row) (take_more entries i d within) ∙ map_push row (take i entries) (get_or entries i d))
+abbrev pub row_of : StripeSetup → List ℕ → ℕ → ℕ × ℕ → Row
+row_of setup inverse number entry = row_of_pair (with_word setup inverse number entry)
+
+-- after the last element of a loop that maps in place, all are mapped
+pub all-mapped : {X : Type 0} (f : X → X) (xs ys : List X) (i : ℕ) → length xs ≤ i → ys ≡ map f (take i xs) ++ drop i xs → ys ≡ map f xs
+all-mapped f xs ys i end so_far = so_far ∙ rw (take_all i xs end, drop_all i xs end) (append-nil (map f xs))
 
 -- words differ if their keys do
 words_differ : (key : ℕ → ℕ) (word : ℕ → ℕ) (entries : List (ℕ × ℕ)) → All (λ e. key (word e.0) ≡ e.0) entries → IsDistinct nat_eq (map (λ e. e.0) entries)

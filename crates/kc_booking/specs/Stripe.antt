@@ -64,6 +64,10 @@ pub record IsLawful (setup : StripeSetup) (number : ℕ) (journal : List Numbere
   pub total_is : total ≡ sum (stripe_occurrences setup number journal)
   pub total_at_most : total ≤ 2 ^ 62
 
+-- the row of a word and its count
+abbrev pub row_of_pair : ℕ × ℕ → Row
+row_of_pair pair = record { word = pair.0; count = pair.1 }
+
 -- the rows are the words of the stripe that occur in the journal's batches, each once, with its occurrences
 pub record AreStripeRows (setup : StripeSetup) (number : ℕ) (journal : List NumberedPieces) (rows : List Row)
     : Type 0 where

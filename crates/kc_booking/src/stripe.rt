@@ -1,6 +1,6 @@
 //! A stripe, which always has exactly the counts of the batches in its journal.
 ghost use Rattle.std.specs.Prelude.{◌≡◌, ◌+◌, ◌<◌, ◌≤◌, ◌^◌, ◌≢◌, ◌==◌, ◌↔◌, ◌⊎◌, [], ◌∷◌, ◌++◌, length, sum_by};
-ghost use Rattle.std.specs.Prelude.{count_by, max, ◌*◌, ℕ, IfOk, IfErr, IsOk, OnOk, OnErr, MatchBool, nat_eq};
+ghost use Rattle.std.specs.Prelude.{map, count_by, max, ◌*◌, ℕ, IfOk, IfErr, IsOk, OnOk, OnErr, MatchBool, nat_eq};
 ghost use Rattle.std.specs.List.Sorted.{IsPermutation};
 ghost use Rattle.std.specs.HashSet.{contains, spare};
 ghost use Rattle.std.specs.Vec.{vec_capacity};
@@ -14,6 +14,7 @@ ghost use Rattle.kc_booking.specs.Cuts.{all_keys_of, round_at, IsOwnRound, First
 ghost use Rattle.kc_booking.specs.Counted.{KeepsLimits, SomeMayBeFull, SomeMayBeFullInSomeOrder};
 ghost use Rattle.kc_booking.specs.Stripe.{StripeState, IsLawful, IsBooked, IsOwnCut, IsUnchanged, AreStripeRows};
 ghost use Rattle.kc_booking.specs.Stripe.{word_occurrences, stripe_occurrences, NumbersDiffer, KnowsNumbers};
+ghost use Rattle.kc_booking.specs.Stripe.{row_of_pair};
 
 use crate::at_least::AtLeast;
 use crate::booking_fault::BookFault;
@@ -22,9 +23,8 @@ use crate::cut::Cut;
 use crate::cuts::{Cuts, clones_of};
 use crate::part_order::Ordered;
 use crate::setup::Setup;
-use kc_lemmas::room_for_each;
 use kc_table::Counts;
-use kc_tally::{Histogram, Row};
+use kc_tally::Histogram;
 use kc_word::{Batch, Word};
 use std::alloc::{AllocError, Global};
 use std::collections::HashSet;
@@ -191,22 +191,19 @@ impl<C: Counts> Stripe<C> {
     }
 
     /// The words of the stripe that occur in the journal's batches, each once, with its occurrences, in any order.
-    pub fn rows(&self, alloc: Global) -> Result<Vec<Row>, AllocError>
-        ensures { IfOk result (λ rows. AreStripeRows self.now.setup self.now.number self.now.journal rows.items) }
+    pub fn rows(&self, alloc: Global) -> Result<Vec<(u64, u64)>, AllocError>
+        ensures { IfOk result (λ rows.
+            AreStripeRows self.now.setup self.now.number self.now.journal (map row_of_pair rows.items)) }
     {
         let setup = &self.setup;
         // for the proof: facts about the words and their keys
         let _bits = setup.stripe_bits;
-        let counted = self.counted.table.rows(alloc)?;
+        let mut rows = self.counted.table.rows(alloc)?;
         let tables = setup.hash.back_tables();
-        let mut rows = room_for_each(alloc, &counted)?;
-        for (key, count) in &counted {
-            let hash_value = setup.hash_value_at(self.number, *key);
-            let row = Row {
-                word: tables.apply(hash_value),
-                count: *count,
-            };
-            rows.push(row)?;
+        // in place, since a second list would double the memory
+        for row in rows.iter_mut() {
+            let hash_value = setup.hash_value_at(self.number, row.0);
+            row.0 = tables.apply(hash_value);
         }
         Ok(rows)
     }

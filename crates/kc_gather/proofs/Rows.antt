@@ -1,5 +1,5 @@
 -- Rows that are dealt out among stripes, joined and sorted.
-use Rattle.std.proofs.Common.{◌≡◌, ◌≢◌, ℕ, suc, ◌+◌, ◌^◌, ◌<◌, ◌≤◌, ⊎_elim, Vec, Global, false, cond, eqb, nat_eq, List, [], ◌∷◌, ◌++◌, length, get_or, map, sum_by, All, Contains, refl, ap, sym, ◌∙◌, subst, arith}
+use Rattle.std.proofs.Common.{◌≡◌, ◌≢◌, ℕ, suc, ◌+◌, ◌<◌, ◌≤◌, ⊎_elim, Vec, Global, false, cond, eqb, nat_eq, List, [], ◌∷◌, ◌++◌, length, get_or, map, sum_by, All, Contains, refl, ap, sym, ◌∙◌, subst, arith}
 use Rattle.std.specs.List.{IsDistinct, flat_map}
 use Rattle.std.specs.List.Sorted.{IsPermutation}
 use Rattle.std.proofs.lemmas.Bool.{cases_eq, eq-eqb, ne_eqb, cond-true, cond-false}
@@ -187,10 +187,6 @@ AreRowsFrom-taken setup batches n (parts ∷ taken) all have =
 
     zero_more : n + 0 ≡ n
     zero_more = omega arith
-
--- the words of a stripe's rows are words of the count
-pub row-words : {setup : StripeSetup} {number : ℕ} {journal : List NumberedPieces} {rows : List Row} → AreStripeRows setup number journal rows → All (λ row. row.word < 4 ^ setup.rule.k) rows
-row-words are k d within = (are.words k d within).0
 
 -- the rows of a stripe whose journal has exactly the given batches, in parts, are those of this stripe of the count
 pub HasRowsOf-whole : {C : Type 0} (setup : StripeSetup) (batches : List NumberedPieces) (n : ℕ) (stripe : StripeState C) (rows : List Row) (parts : Vec LooseSeen Global)

@@ -2,7 +2,7 @@
 ghost use Rattle.std.specs.Prelude.{◌≡◌, ℕ, List, map, IfOk};
 ghost use Rattle.kc_word.specs.Cutting.{NumberedPieces};
 ghost use Rattle.kc_booking.specs.Setup.{StripeSetup};
-ghost use Rattle.kc_booking.specs.Stripe.{AreStripeRows};
+ghost use Rattle.kc_booking.specs.Stripe.{AreStripeRows, row_of_pair};
 ghost use Rattle.kc_gather.specs.Gathering.{IsWhole, HasRowsOf};
 
 use crate::parts::divide_rows;
@@ -10,7 +10,7 @@ use crate::stripe_part::StripePart;
 use kc_booking::Stripe;
 use kc_lemmas::room_for_each;
 use kc_table::Counts;
-use kc_tally::{LooseRows, Row};
+use kc_tally::LooseRows;
 use std::alloc::{AllocError, Global};
 
 /// The words of a stripe with their counts, in parts by the highest bits of the words. The stripe is freed.
@@ -30,8 +30,12 @@ pub(crate) fn rows_of<C: Counts + Drop>(
 }
 
 // The words of a stripe with their counts. The stripe is freed, so its memory is available for their parts.
-fn unparted_rows<C: Counts + Drop>(alloc: Global, stripe: Stripe<C>) -> Result<Vec<Row>, AllocError>
-    ensures { IfOk result (λ rows. AreStripeRows stripe.setup stripe.number stripe.journal rows.items) }
+fn unparted_rows<C: Counts + Drop>(
+    alloc: Global,
+    stripe: Stripe<C>,
+) -> Result<Vec<(u64, u64)>, AllocError>
+    ensures { IfOk result (λ rows.
+        AreStripeRows stripe.setup stripe.number stripe.journal (map row_of_pair rows.items)) }
 {
     stripe.rows(alloc)
 }

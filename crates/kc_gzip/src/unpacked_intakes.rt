@@ -1,5 +1,6 @@
 //! Taking a source block by block, for readers that use its text as it comes.
-ghost use Rattle.std.specs.Prelude.{◌≡◌, ◌+◌, ◌-◌, ◌^◌, ◌≤◌, length, drop, min, IfOk, IfErr, OnErr};
+ghost use Rattle.std.specs.Prelude.{◌≡◌, ◌+◌, ◌-◌, ◌^◌, ◌≤◌, length, take, drop, min, max};
+ghost use Rattle.std.specs.Prelude.{IfOk, IfErr, OnErr};
 ghost use Rattle.kc_gzip.specs.declared.unpacked_intakes.TakeFault.TheVariants.{Memory};
 ghost use Rattle.kc_gzip.specs.Since.{Continues};
 ghost use Rattle.kc_gzip.specs.Intakes.{AsksForBlocks, Comes, Fills, Skips, Stops, block_size, none_kept};
@@ -12,6 +13,9 @@ use kc_io::{BLOCK_SIZE, Source};
 use std::alloc::{AllocError, AllocFailed, Global};
 use std::marker::Model;
 use thiserror::Error;
+
+/// The room in a new buffer, besides a block, for the part of a line that is left when the next block comes.
+const FRONT: usize = 4_096;
 
 /// Why the text of a source could not be taken.
 #[derive(Clone, Copy, Debug, PartialEq, Eq, Error)]
@@ -65,46 +69,47 @@ impl From<GunzipFault> for TakeFault {
 
 /// The bytes that came from a source and are not used yet, and how many more may come. Gzip is decompressed.
 ///
-/// It keeps these bytes, one block, and what the decompression keeps, whatever came before.
+/// It keeps these bytes with room for one block behind them, and what the decompression keeps, whatever came before.
 #[derive(Drop)]
 pub struct Intake {
     unpacking: Unpacking,
-    bytes: Vec<u8>,
+    // the bytes that are not used yet are those from `used` to `end`
+    buffer: Vec<u8>,
     used: usize,
-    block: Vec<u8>,
+    end: usize,
     room: u64,
 }
 
 impl Model for Intake {
-    ghost use Rattle.std.specs.Prelude.{◌≡◌, ◌≤◌, length, drop};
+    ghost use Rattle.std.specs.Prelude.{◌≤◌, length, take, drop};
     ghost use Rattle.kc_gzip.specs.Intakes.{AsksForBlocks, Unread, block_size};
 
     ghost Value = { Unread };
 
     ghost view = { λ i. record {
-      bytes = drop i.used i.bytes.items;
+      bytes = drop i.used (take i.end i.buffer.items);
       room = i.room;
       came = i.unpacking.given.bytes;
       since = i.unpacking.since;
     } };
 
-    ghost invariant = { λ i.
-        (i.used ≤ length i.bytes.items) × (length i.block.items ≡ block_size) × AsksForBlocks i.unpacking.since };
+    ghost invariant = { λ i. (i.used ≤ i.end) × (i.end ≤ length i.buffer.items)
+        × (block_size ≤ length i.buffer.items) × AsksForBlocks i.unpacking.since };
 }
 
 impl Intake {
     /// The state before the first read, if `limit` bytes may come.
     ///
     /// # Errors
-    /// `AllocError` if a block was refused.
+    /// `AllocError` if a block or the buffer was refused.
     pub fn new(alloc: Global, limit: u64) -> Result<Intake, AllocError>
         ensures { IfOk result (λ intake. intake ≡ nothing_taken limit) }
     {
         Ok(Intake {
             unpacking: Unpacking::new(alloc)?,
-            bytes: Vec::new(alloc),
+            buffer: empty_buffer(alloc)?,
             used: 0,
-            block: zeros(alloc)?,
+            end: 0,
             room: limit,
         })
     }
@@ -113,7 +118,7 @@ impl Intake {
     pub fn as_slice(&self) -> &[u8]
         ensures { result.now ≡ self.now.bytes }
     {
-        &self.bytes[self.used..]
+        &self.buffer[self.used..self.end]
     }
 
     /// How many bytes the source has given, compressed as it gave them; 2^64 - 1 if there are more.
@@ -144,16 +149,17 @@ impl Intake {
         ensures refused { OnErr result (self.new.bytes ≡ self.old.bytes) }
         ensures kept { OnErr result (self.new.room ≡ self.old.room) }
     {
-        let block = self.block.as_mut_slice();
-        let count = take(&mut self.unpacking, source, block, self.room)?;
-        if count == 0 {
-            return Ok(false);
+        match self.unpacking.fault() {
+            Some(why) => return Err(TakeFault::from(why)),
+            None => {}
         }
-        forget(&mut self.bytes, self.used);
+        self.end = make_room(&mut self.buffer, self.used, self.end)?;
         self.used = 0;
-        self.bytes.extend_from_slice(&self.block[..count])?;
+        let block = &mut self.buffer[self.end..self.end + BLOCK_SIZE];
+        let count = take(&mut self.unpacking, source, block, self.room)?;
+        self.end += count;
         self.room -= count as u64;
-        Ok(true)
+        Ok(count > 0)
     }
 
     /// Takes the rest of the source block by block, forgets it, and returns the length of its text.
@@ -163,21 +169,37 @@ impl Intake {
     pub fn skip_rest<S: Source>(mut self, source: &mut S) -> Result<u64, TakeFault>
         ensures { Skips (S.seen source.old) (S.seen source.new) self result }
     {
-        let block = self.block.as_mut_slice();
+        let block = &mut self.buffer[..BLOCK_SIZE];
         skip_by_blocks(&mut self.unpacking, source, block, self.room)
     }
 }
 
-// Removes the first bytes.
-fn forget(bytes: &mut Vec<u8>, used: usize)
-    requires { used ≤ length bytes.old.items }
-    ensures { bytes.new.items ≡ drop used bytes.old.items }
+// A buffer without bytes.
+fn empty_buffer(alloc: Global) -> Result<Vec<u8>, AllocError>
+    ensures { IfOk result (λ buffer. length buffer.items ≡ FRONT + BLOCK_SIZE) }
 {
-    if used > 0 {
-        let len = bytes.len();
-        bytes.as_mut_slice().copy_within(used..len, 0);
-        bytes.truncate(len - used);
+    zeros(alloc, FRONT + BLOCK_SIZE)
+}
+
+// Moves the bytes from `used` to `end` to the front, with room for a block behind them, and returns how many they are.
+fn make_room(buffer: &mut Vec<u8>, used: usize, end: usize) -> Result<usize, AllocError>
+    requires order { used ≤ end }
+    requires within { end ≤ length buffer.old.items }
+    ensures kept { IfOk result (λ left. take left buffer.new.items ≡ drop used (take end buffer.old.items)) }
+    ensures count { IfOk result (λ left. left ≡ end - used) }
+    ensures room { IfOk result (λ left. left + BLOCK_SIZE ≤ length buffer.new.items) }
+    ensures bound { length buffer.new.items ≤ max (length buffer.old.items) (end - used + BLOCK_SIZE) }
+    ensures refused { OnErr result (buffer.new.items ≡ buffer.old.items) }
+{
+    let left = end - used;
+    let needed = left + BLOCK_SIZE;
+    if buffer.len() < needed {
+        buffer.resize(needed, 0)?;
     }
+    if used > 0 {
+        buffer.as_mut_slice().copy_within(used..end, 0);
+    }
+    Ok(left)
 }
 
 // Takes what one read gives into the block. Condition: the block is whole, as those before were.

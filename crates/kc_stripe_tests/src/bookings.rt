@@ -3,7 +3,6 @@ use crate::sample_batches::{count_in, cuts_of_three, made_setup, plain_stripe};
 use crate::stripe_assertions::{assert_items, assert_same};
 use kc_stripe::{BookFault, Cut, Stripe};
 use kc_table::{Counts, LimitedCounts, PlainCounts, QuotientTable, TableFault};
-use kc_tally::Row;
 use kc_word::Batch;
 use std::alloc::Global;
 use std::process::Abort;
@@ -133,7 +132,7 @@ const ONE_WORD: Held<'static> = Held {
 };
 
 // The rows after these steps.
-const ROWS: &[Row] = &[Row { word: 0, count: 3 }];
+const ROWS: &[(u64, u64)] = &[(0, 3)];
 
 // AAA twice in batch 0, and once in batch 1.
 const TWO_BATCHES: &[&[u8]] = &[b"AAAA", b"AAA"];

@@ -3,7 +3,6 @@ use crate::sample_batches::{cuts_in, made_setup, plain_stripe, reads_of, setup_w
 use crate::stripe_assertions::{assert_items, assert_same};
 use kc_stripe::{BookFault, Cut, Setup, Stripe};
 use kc_table::PlainCounts;
-use kc_tally::Row;
 use kc_word::Only;
 use std::alloc::{AllocError, Global};
 use std::process::Abort;
@@ -24,14 +23,10 @@ fn listed_setup(alloc: Global, both: bool, texts: &[&[u8]]) -> Result<Setup, Fai
 }
 
 // Whether both strands count, the reads of the list, and what is then counted in ACGTA.
-const LISTED: &[(bool, &[&[u8]], &[Row])] = &[
-    (false, &[b"CGT"], &[Row { word: 27, count: 1 }]),
-    (true, &[b"CGT"], &[Row { word: 6, count: 2 }]),
-    (
-        false,
-        &[b"CGTA"],
-        &[Row { word: 27, count: 1 }, Row { word: 44, count: 1 }],
-    ),
+const LISTED: &[(bool, &[&[u8]], &[(u64, u64)])] = &[
+    (false, &[b"CGT"], &[(27, 1)]),
+    (true, &[b"CGT"], &[(6, 2)]),
+    (false, &[b"CGTA"], &[(27, 1), (44, 1)]),
     (false, &[], &[]),
 ];
 
@@ -51,7 +46,7 @@ fn assert_booked(
     setup: &Setup,
     other: &Setup,
     answer: &Result<(), BookFault>,
-    rows: &[Row],
+    rows: &[(u64, u64)],
 ) -> Result<(), Fail> {
     let cuts = cuts_in(alloc, other, b"ACGTA")?;
     Ok(assert_rows(
@@ -71,7 +66,7 @@ fn assert_rows(
     stripe: &mut Stripe<PlainCounts>,
     cuts: &[Cut],
     answer: &Result<(), BookFault>,
-    rows: &[Row],
+    rows: &[(u64, u64)],
 ) -> Result<(), AllocError> {
     assert!(rt; !cuts.is_empty());
     assert_same(rt, "a booking", &stripe.book(&cuts[0]), answer);
