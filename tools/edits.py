@@ -1,6 +1,6 @@
 #!/usr/bin/env python3
 """Tries the edits that the prover must refuse, many by one check:
-    tools/edits.py [--kept FOLDER [--beside LOG]] [CRATE..]
+    tools/edits.py [--anew] [--kept FOLDER [--beside LOG]] [CRATE..]
 The crates are proved first, from what earlier runs kept. With --kept they are taken as the full test has proved and
 built them, and the folder has what checks of edits kept of them, if there were any. With --beside `rt ci` still runs
 and writes LOG: the edits of a crate are tried, at a low priority, as soon as that has proved the crate, so that no
@@ -21,6 +21,9 @@ count, nor that the edited text can't be read, nor that the checker could not te
 tried once more alone, which decides.
 Where nothing of a group is refused, one of its edits most likely can't be read, and first each half is tried.
 
+An edit that an earlier run on this machine saw refused, over the same files and by the same toolchain, isn't tried
+again: `rt ci` does the same with proofs. With --anew all are tried.
+
 A line is printed for each crate once its edits were tried. The last line is `N refused, M failed`.
 """
 
@@ -36,6 +39,7 @@ from dataclasses import dataclass, field
 import judging
 import kit
 from judging import text_of
+from refused import Refused
 
 FOLDER = "edits"
 # How many edits a check has at the most: those of any crate today, since what a check loads is paid once then.
@@ -209,15 +213,27 @@ def try_group(rt, crate, group, kept, is_first=False):
     return judged
 
 
-def try_crates(rt, crates, kept):
-    """Tries the edits of these crates, groups side by side, over what that folder has of them, or each over its own.
-    Where the folder has nothing of a crate its smallest group comes first, and the others are tried over what that
-    check proved. Returns for each crate its name, how many groups it has, and for each of its edits why it failed, or None."""
-    tasks, tried = {}, {}
+@dataclass
+class Tried:
+    """What came of a crate's edits: how many groups were tried, how many edits an earlier run saw refused, and for each
+    why it failed, or None."""
+
+    groups: int
+    earlier: int
+    failed: dict
+
+
+def try_crates(rt, crates, kept, refused):
+    """Tries the edits of these crates that no earlier run saw refused, groups side by side, over what that folder has
+    of them, or each over its own. Where the folder has nothing of a crate its smallest group comes first, and the
+    others are tried over what that check proved. Returns for each crate its name and what came of its edits."""
+    tasks, tried, stamps = {}, {}, {}
     for crate in (it for it in crates if files_of(it.folder)):
+        stamp = stamps[crate.name] = refused.stamp(crate)
         edits, failed = read_all(rt, crate)
-        groups, folder = grouped(edits), kept or judging.kept_of(crate)
-        tried[crate.name] = len(groups), failed
+        earlier = [it for it in edits if refused.has(crate, it.name, stamp)]
+        groups, folder = grouped([it for it in edits if it not in earlier]), kept or judging.kept_of(crate)
+        tried[crate.name] = Tried(len(groups), len(earlier), failed | dict.fromkeys(it.name for it in earlier))
         comes_first = not judging.has_proofs(crate, folder)
         for at, group in enumerate(groups):
             waits = [(crate.name, "edits", 0)] if comes_first and at > 0 else []
@@ -225,11 +241,13 @@ def try_crates(rt, crates, kept):
             call = lambda _, jobs, given=given: try_group(rt, *given)
             tasks[crate.name, "edits", at] = waits, crate.count(rb"\n"), rt.need(crate), call
     for (name, _, _), judged in rt.in_lanes(tasks).items():
-        tried[name][1].update(judged)
-    return [(name, *it) for name, it in tried.items()]
+        tried[name].failed.update(judged)
+    for crate in (it for it in crates if it.name in tried):
+        refused.keep(crate, tried[crate.name].failed, stamps[crate.name])
+    return list(tried.items())
 
 
-def try_beside(rt, crates, kept, path):
+def try_beside(rt, crates, kept, path, refused):
     """Tries the edits of these crates as `try_crates` does, each crate's as soon as `rt ci` has proved it, and yields
     the same. Until that has ended half of the processors are used at the most."""
     os.nice(10)
@@ -241,7 +259,7 @@ def try_beside(rt, crates, kept, path):
             most = rt.processors() if judging.has_ended(log) else max(rt.processors() // 2, 1)
             for crate in [it for it in left if judging.is_proved(it.name, log)][: most - len(running)]:
                 left.remove(crate)
-                running.add(pool.submit(try_crates, rt, [crate], kept))
+                running.add(pool.submit(try_crates, rt, [crate], kept, refused))
             for it in wait(running, timeout=2, return_when=FIRST_COMPLETED).done if running else time.sleep(2) or ():
                 running.remove(it)
                 yield from it.result()
@@ -255,19 +273,23 @@ def are_proved(crates):
 
 def main(words):
     rt = kit.load()
+    anew, words = (True, words[1:]) if words[:1] == ["--anew"] else (False, words)
     kept, names = (words[1], words[2:]) if words[:1] == ["--kept"] else (None, words)
     log, names = (names[1], names[2:]) if names[:1] == ["--beside"] else (None, names)
     crates = [it for it in kit.crates_of(rt) if not names or it.name in names]
     if not kept and not are_proved(crates):
         return 1
+    known = Refused(rt, kit.crates_of(rt), anew)
     refused = failures = 0
-    for name, groups, failed in try_beside(rt, crates, kept, log) if log else try_crates(rt, crates, kept):
-        for edit, why in failed.items():
+    for name, tried in try_beside(rt, crates, kept, log, known) if log else try_crates(rt, crates, kept, known):
+        for edit, why in tried.failed.items():
             if why:
                 print(f"NOT REFUSED: {name}/{FOLDER}/{edit}: {why}", flush=True)
-        bad = sum(bool(it) for it in failed.values())
-        refused, failures = refused + len(failed) - bad, failures + bad
-        print(f"edits of {name}: {len(failed) - bad} refused by {groups} checks, {bad} failed", flush=True)
+        bad = sum(bool(it) for it in tried.failed.values())
+        good = len(tried.failed) - bad
+        refused, failures = refused + good, failures + bad
+        by_whom = f"{tried.groups} checks" + (f" and {tried.earlier} of them earlier" if tried.earlier else "")
+        print(f"edits of {name}: {good} refused by {by_whom}, {bad} failed", flush=True)
     print(f"{refused} refused, {failures} failed")
     return 1 if failures or not refused else 0
 

@@ -1,5 +1,6 @@
 // Combines two table texts of words of one length, counted on both strands, as `kcount merge`, `intersect` and `subtract` do: the first pass
 // checks each row of each table, the second one checks them again and writes the table of the result next to OUT, which it then replaces.
+// OUT is made, empty, if there is none: on ext4 a rename that replaces a file takes longer.
 //   main merge|intersect|subtract FIRST SECOND OUT
 #include <fcntl.h>
 #include <stddef.h>
@@ -148,6 +149,8 @@ static inline void put(uint64_t word, uint64_t count, int length) {
 
 int main(int argc, char **argv) {
     if (argc != 5) return 2;
+    const int made = open(argv[4], O_WRONLY | O_CREAT | O_APPEND, 0666);
+    if (made < 0 || close(made) != 0) stop("cannot open");
     for (int i = 0; i < 256; i++) {
         fours[i] = 0;
         turned[i] = 0;
