@@ -10,7 +10,7 @@ trap 'rm -rf "$BENCH_WORK"' EXIT
 
 echo '| Script | What | Rattle | C or peer | Ratio |'
 echo '|---|---|---|---|---|'
-for script in parse words memory hash table table_text thread_start tickets stripe stripes run count settings only combine tables select pairs profile gzip; do
+for script in parse words memory hash table table_text thread_start tickets stripe stripes run count settings only lookups combine tables select pairs profile gzip; do
     rm -f "$BENCH_WORK"/times.*
     "$bench/$script.sh"
 done
