@@ -42,6 +42,8 @@ pub fn add_four(number: u8) -> u64
     number as u64 + 4
 }
 RATTLE
+# (a crate that no earlier run of this test has seen)
+echo "// Made at $(date +%s%N)." >> "$crate/src/lib.rt"
 
 # an edit of the crate: its name, the function that has to be refused, the text and what stands in its place
 edit() {
