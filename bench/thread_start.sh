@@ -1,6 +1,6 @@
 #!/bin/bash
 # How long a new thread waits to begin while the one that started it is busy, by a C program: what a step of a count
-# costs that starts threads. Where the system begins a thread at once, on another processor, it is some 0.05 ms.
+# costs that starts threads. It is the host's as much as the system's where a machine is virtual.
 #   bench/thread_start.sh
 #   STARTS      how many starts a median is of (200)
 . "$(dirname "$0")/lib.sh"
