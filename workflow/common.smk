@@ -61,7 +61,7 @@ WRONG = 1 - (1 - config["wrong_bases"]) ** config["k"]
 
 
 def different(positions):
-    """At most so many different k-mers begin at so many positions."""
+    """At most so many distinct k-mers begin at so many positions."""
     return min(positions, RIGHT + WRONG * positions)
 
 
