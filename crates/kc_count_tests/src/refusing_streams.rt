@@ -339,7 +339,7 @@ fn fronts_of_a_gzipped_table(rt: HostRuntime) -> Result<(), ReportFault> {
     Ok(())
 }
 
-// These have another check sum, another length, another method, or something after them.
+// These have another checksum, another length, another method, or something after them.
 const BROKEN: &[&[u8]] = &[
     b"\x1f\x8b\x08\x00\x00\x00\x00\x00\x02\x03\xf3v\x0eQ0T0V\
         H\xe6rtvW0\xe2r\x0fqT0\xe4r\xf5sQ0R0\xe6\x02\x00\xa3M<6\x1e\x00\x00\x00",

@@ -8,8 +8,8 @@ use Rattle.std.proofs.lemmas.Bool.{lt-ltb}
 use Rattle.std.proofs.lemmas.List.{length-append, length-take, length-drop, length-take-le, take-append-le, with_items_is}
 use Rattle.kc_io.specs.Sources.{Seen}
 use Rattle.kc_gzip.specs.declared.faults.GzipFault.TheVariants as gzip
-use Rattle.kc_gzip.specs.declared.unzip.GunzipFault.{GunzipFault}
-use Rattle.kc_gzip.specs.declared.unzip.GunzipFault.TheVariants as gunzip
+use Rattle.kc_gzip.specs.declared.gzip_or_plain.GunzipFault.{GunzipFault}
+use Rattle.kc_gzip.specs.declared.gzip_or_plain.GunzipFault.TheVariants as gunzip
 use Rattle.kc_gzip.specs.declared.unpacked_intakes.TakeFault.{TakeFault}
 use Rattle.kc_gzip.specs.declared.unpacked_intakes.TakeFault.TheVariants.{Memory}
 use Rattle.kc_gzip.specs.Following.{says_partly, IsFront, HasToldAll, Unpacked, WhyFailed}

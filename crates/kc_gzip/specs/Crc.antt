@@ -1,7 +1,7 @@
 -- CRC 32: source, RFC 1952, 2.3.1 and section 8 (ISO 3309; ITU-T V.42, 8.1.1.6.2).
 --
 -- The bits of the message, the lowest of each byte first, are the coefficients of a polynomial over the numbers 0 and 1
--- (so + is `bit_xor`), the highest power first. The check sum is the remainder of its division by the generator. A
+-- (so + is `bit_xor`), the highest power first. The checksum is the remainder of its division by the generator. A
 -- remainder has 32 coefficients; as a number, its lowest bit is the coefficient of x^31 and its highest that of x^0, so
 -- multiplication by x shifts it down by one bit.
 use Rattle.std.specs.Prelude.{ℕ, ◌/◌, ◌%◌, ◌-◌, ◌^◌, ◌==◌, Bool, List, fold, bit_xor, if◌then◌else◌}

@@ -7,8 +7,8 @@ use Rattle.kc_gzip.specs.declared.faults.GzipFault.{GzipFault}
 use Rattle.kc_gzip.specs.declared.faults.GzipFault.TheVariants as gzip
 use Rattle.kc_gzip.specs.declared.unpacked_intakes.TakeFault.{TakeFault}
 use Rattle.kc_gzip.specs.declared.unpacked_intakes.TakeFault.TheVariants.{TooLong, Read, Broken, Short, Memory}
-use Rattle.kc_gzip.specs.declared.unzip.GunzipFault.{GunzipFault}
-use Rattle.kc_gzip.specs.declared.unzip.GunzipFault.TheVariants as gunzip
+use Rattle.kc_gzip.specs.declared.gzip_or_plain.GunzipFault.{GunzipFault}
+use Rattle.kc_gzip.specs.declared.gzip_or_plain.GunzipFault.TheVariants as gunzip
 use Rattle.kc_gzip.specs.Following.{says, says_partly, IsFront, Unpacked}
 use Rattle.kc_gzip.specs.Since.{HasAnswered}
 

@@ -324,7 +324,7 @@ fn crc_behind_zeros(count: usize, number: u64) -> u32
     TABLES[256 * (count - 1) + (number & 0xff) as usize]
 }
 
-/// The check sum of the bytes.
+/// The checksum of the bytes.
 pub fn crc32(bytes: &[u8]) -> u32
     ensures { result ≡ crc bytes.now }
 {

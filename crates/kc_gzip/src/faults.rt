@@ -8,7 +8,7 @@ use thiserror::Error;
 /// Why bytes are no gzip.
 #[derive(Clone, Copy, Debug, PartialEq, Eq, Error)]
 pub enum GzipFault {
-    /// A header, a block, a check sum or a length is wrong, or something else follows.
+    /// A header, a block, a checksum or a length is wrong, or something else follows.
     #[error("broken gzip")]
     Broken,
     /// The bytes end before the gzip does.

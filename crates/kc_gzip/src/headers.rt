@@ -1,4 +1,4 @@
-//! A member's header, field by field (RFC 1952, 2.3.1); only the register of its check sum is kept.
+//! A member's header, field by field (RFC 1952, 2.3.1); only the register of its checksum is kept.
 ghost use Rattle.std.specs.Prelude.{◌≡◌, ◌==◌, ◌<◌, ◌%◌, ◌^◌, ℕ, List, length, min, bit_xor, if◌then◌else◌};
 ghost use Rattle.kc_gzip.specs.Buffer.{bits_left};
 ghost use Rattle.kc_gzip.specs.Reading.{with_left, Gives};
@@ -9,7 +9,7 @@ ghost use Rattle.kc_gzip.specs.Fields.{sum_bytes_at, next_sum, start_at, begun_h
 use crate::bits::Bits;
 use crate::checksum::{FIRST_REGISTER, crc_after_byte, crc_after_bytes};
 use crate::faults::GzipFault;
-use crate::members::{flags_of, has_flag, is_taken};
+use crate::whole_files::{flags_of, has_flag, is_taken};
 use std::alloc::Global;
 
 /// What comes next in a header.
@@ -23,7 +23,7 @@ pub enum Place {
     Name,
     /// The comment, or the rest of it.
     Comment,
-    /// The check sum.
+    /// The checksum.
     Sum,
 }
 
@@ -63,7 +63,7 @@ pub fn take_start(alloc: Global, bits: &mut Bits) -> Result<(u8, u32), GzipFault
 /// Takes the next field, or the part of it that is there. Returns what is left of the header, if anything is.
 ///
 /// # Errors
-/// `Short` if nothing of the field is there, and `Broken` if the check sum is wrong.
+/// `Short` if nothing of the field is there, and `Broken` if the checksum is wrong.
 pub fn take_field(header: Header, bits: &mut Bits) -> Result<Option<Header>, GzipFault>
     ensures { GoesOn result header (bits_left bits.old) (bits_left bits.new) }
 {
@@ -195,7 +195,7 @@ fn place_after(ended: bool, now: Place, next: Place) -> Place
     if ended { next } else { now }
 }
 
-// Takes the check sum, if it is given.
+// Takes the checksum, if it is given.
 fn take_sum(header: Header, bits: &mut Bits) -> Result<Option<Header>, GzipFault>
     requires { header.place ≡ Place.Sum }
     ensures { GoesOn result header (bits_left bits.old) (bits_left bits.new) }
@@ -213,7 +213,7 @@ fn take_sum(header: Header, bits: &mut Bits) -> Result<Option<Header>, GzipFault
     Ok(None)
 }
 
-// A header's check sum.
+// A header's checksum.
 fn check_sum(register: u32) -> u32
     ensures { result ≡ bit_xor register first_register % 2 ^ 16 }
 {

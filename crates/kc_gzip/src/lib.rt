@@ -1,8 +1,8 @@
 //! Gzip: the text of compressed bytes (RFC 1951 and RFC 1952).
 //!
 //! `gunzip` returns the text of all members of a file, or a `GzipFault`: the bytes are broken or cut short. A `Gunzip`
-//! is a source of the decompressed bytes of another. `crc32` is the check sum of a member. The text of bytes is defined
-//! in `specs/` (`Bits`, `Codes`, `Elements`, `Blocks`, `Members`; `Crc` for the check sum), and `laws` has worked rows.
+//! is a source of the decompressed bytes of another. `crc32` is the checksum of a member. The text of bytes is defined
+//! in `specs/` (`Bits`, `Codes`, `Elements`, `Blocks`, `Members`; `Crc` for the checksum), and `laws` has worked rows.
 //!
 //! ```ignore
 //! let file = b"\x1f\x8b\x08\x00\x00\x00\x00\x00\x00\xff\xb3+2\xe4rt\xe6\x02\x00\xc6\xce\xff\x9a\x07\x00\x00\x00";
@@ -21,19 +21,19 @@ mod dynamic_codes;
 mod elements;
 mod faults;
 mod gunzips;
+mod gzip_or_plain;
 mod headers;
 pub mod laws;
+mod lent_source;
 mod lookups;
-mod members;
+mod member_stages;
 mod portions;
-mod stages;
 mod unpacked_intakes;
-mod unpacking;
-mod unzip;
+mod whole_files;
 
 pub use checksum::crc32;
 pub use faults::GzipFault;
 pub use gunzips::Gunzip;
-pub use members::gunzip;
+pub use gzip_or_plain::GunzipFault;
 pub use unpacked_intakes::{Intake, TakeFault};
-pub use unzip::GunzipFault;
+pub use whole_files::gunzip;

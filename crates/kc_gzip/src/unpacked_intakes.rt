@@ -7,8 +7,8 @@ ghost use Rattle.kc_gzip.specs.Intakes.{AsksForBlocks, Comes, Fills, Skips, Stop
 ghost use Rattle.kc_gzip.specs.Intakes.{nothing_taken, taking};
 
 use crate::faults::GzipFault;
-use crate::unpacking::Unpacking;
-use crate::unzip::{GunzipFault, zeros};
+use crate::gzip_or_plain::{GunzipFault, zeros};
+use crate::lent_source::Unpacking;
 use kc_io::{BLOCK_SIZE, Source};
 use std::alloc::{AllocError, AllocFailed, Global};
 use std::marker::Model;

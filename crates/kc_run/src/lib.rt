@@ -13,10 +13,10 @@
 
 mod crew;
 mod gate;
+mod round_booking;
 mod run_fault;
 mod whole_run;
 mod worker;
-mod worker_rounds;
 
 pub use crate::gate::{Gate, NoGate};
 pub use crate::run_fault::RunFault;

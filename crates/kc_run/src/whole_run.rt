@@ -11,9 +11,9 @@ ghost use Rattle.kc_stripe.specs.Terms.{IsFullOnlyWhere, MayBeTooMany, SomeTable
 
 use crate::crew::{join_shares, work_all, workers_of};
 use crate::gate::Gate;
+use crate::round_booking::RoundLimits;
 use crate::run_fault::RunFault;
 use crate::worker::{Job, Worker};
-use crate::worker_rounds::RoundLimits;
 use kc_gather::Summary;
 use kc_share::{Plan, Sheet};
 use kc_stripe::{Setup, Stripe, Stripes, Terms};

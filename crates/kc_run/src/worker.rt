@@ -7,8 +7,8 @@ ghost use Rattle.kc_booking.specs.Stripe.{position_sum};
 ghost use Rattle.kc_run.specs.Runs.{IsJob, IsReady, HasWorked, IsWorkerFault, MayEverBeFull, but_last};
 
 use crate::gate::Gate;
+use crate::round_booking::{RoundBuffers, RoundLimits, book_range};
 use crate::run_fault::RunFault;
-use crate::worker_rounds::{RoundBuffers, RoundLimits, book_range};
 use kc_share::{Books, Plan, Share};
 use kc_stripe::{Round, Stripes, Terms};
 use kc_table::Counts;

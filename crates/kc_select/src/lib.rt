@@ -24,6 +24,7 @@ mod pair_reading;
 mod pair_rule;
 mod pair_selection;
 mod profile_text;
+mod read_names;
 mod record_texts;
 mod row_index;
 mod run_walk;

@@ -2,7 +2,7 @@
 ghost use Rattle.std.specs.Prelude.{◌≡◌};
 ghost use Rattle.kc_select.specs.Pairs.{has_end, bare_name, is_numbered, are_mates};
 
-use crate::profile_text::name_of;
+use crate::read_names::name_of;
 
 // Whether the titles are those of a first and a second mate.
 pub(crate) fn are_mates(first: &[u8], second: &[u8]) -> bool

@@ -5,10 +5,10 @@ ghost use Rattle.kc_select.specs.Profiles.{name_of, run_line, run_lines};
 ghost use Rattle.kc_select.specs.CountWalks.{runs_left};
 
 use crate::count_walk::CountWalk;
+use crate::read_names::name_of;
 use crate::record_texts::put;
 use crate::run_walk::CountRun;
 use kc_io::{Block, Failed, NUMBER_SIZE, Sink};
-use memchr::memchr2;
 
 // The most bytes of a run's line after its name: three numbers, three tabs and the end of the line.
 const NUMBERS_SIZE: usize = 3 * NUMBER_SIZE + 4;
@@ -30,16 +30,6 @@ pub(crate) fn put_profile<W: Sink>(
         put_run(writer, block, name, run)?;
     }
     Ok(())
-}
-
-// The title up to its first blank.
-pub(crate) fn name_of(title: &[u8]) -> &[u8]
-    ensures { result.now ≡ name_of title.now }
-{
-    match memchr2(b' ', b'\t', title) {
-        Some(end) => &title[..end],
-        None => title,
-    }
 }
 
 // Appends the line of a run to the block.

@@ -276,7 +276,7 @@ fn a_source_that_is_cut_short_or_broken_or_fails(rt: HostRuntime) -> Result<(), 
             (GunzipFault::Read, TakeFault::Read),
         )?;
     }
-    // the text is all there; its check sum is wrong
+    // the text is all there; its checksum is wrong
     let mut bytes = SAMPLE.to_vec(rt.alloc())?;
     let place = bytes.len() - 5;
     bytes[place] ^= 1;
@@ -284,7 +284,7 @@ fn a_source_that_is_cut_short_or_broken_or_fails(rt: HostRuntime) -> Result<(), 
     assert_refused(&rt, &bytes, usize::MAX, broken)
 }
 
-// Bytes, how many they have when they are decompressed, their check sum, and why there are no more.
+// Bytes, how many they have when they are decompressed, their checksum, and why there are no more.
 const FAR: &[(&[u8], usize, u32, Option<GunzipFault>)] = &[
     (FARTHEST, 32_771, 4_263_247_158, None),
     (

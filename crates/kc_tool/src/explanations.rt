@@ -1,7 +1,7 @@
 //! What a person reads about a fault, after its line: what was found, where, and what to do.
 use crate::commands::Verb;
-use crate::file_kinds::{FileKind, kind_of};
 use crate::file_refusals::Refusal;
+use crate::kinds_by_first_bytes::{FileKind, kind_of};
 use crate::looks::{Look, Looks};
 use crate::tool_faults::ToolFault;
 use clap::ArgMatches;

@@ -17,7 +17,7 @@ use crate::file_acts::FileAct;
 use crate::file_refusals::{Refusal, refusal_of};
 use crate::looks::{Look, Looks};
 use crate::named_sources::NamedSource;
-use crate::process::StreamNotes;
+use crate::standard_streams::StreamNotes;
 use crate::tool_faults::ToolFault;
 use kc_io::{Failed, FromRead, Heard, Sink, Source, ToWrite};
 use std::alloc::Global;

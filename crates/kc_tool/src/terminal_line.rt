@@ -20,8 +20,8 @@ const CLEARED: &[u8] = b"\r\x1b[K";
 const INPUT_IS_TYPED: &[u8] = b"reading standard input; end it with Ctrl-D\n";
 
 /// A line on a terminal with the progress of a command: the bytes that were read, the batches that were counted, and
-/// the time it took; or the name of a part of it. The progress of a count is written over the line at most ten times a
-/// second, and not if the clock can't be read; nothing is written of a count that is over sooner. The line is cleared
+/// the time it took; or the name of a part of it. The progress of a count is written over the line at most eight times
+/// a second, and not if the clock can't be read; nothing is written of a count that is over sooner. The line is cleared
 /// at the end. Nothing is written if there is no terminal.
 #[derive(Drop)]
 pub struct ProgressLine<'a, C: Clock, T: Print + IsTerminal> {

@@ -27,8 +27,8 @@ pub mod only_laws;
 mod packed_codes;
 mod piece;
 mod piece_views;
+mod piece_words;
 mod pieces;
-mod roll;
 mod rolled;
 mod runs;
 mod usable_codes;
@@ -42,7 +42,7 @@ pub use kc_kmer::{
 pub use only::Only;
 pub use piece::Piece;
 pub use piece_views::{PieceView, PieceViews};
-pub use roll::{put_words, read_words, words};
+pub use piece_words::{put_words, read_words, words};
 pub use rolled::Rolled;
 pub use usable_codes::{clean, usable_code};
 pub use walk::Walk;

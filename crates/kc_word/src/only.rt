@@ -7,7 +7,7 @@ ghost use Rattle.kc_kmer.specs.Occurrences.{words_of};
 ghost use Rattle.kc_word.specs.Only.{AreListed, IsListOf};
 
 use crate::list_starts::{BLOCK, Starts};
-use crate::roll::read_words;
+use crate::piece_words::read_words;
 use kc_fastx::SeqRead;
 use kc_kmer::{K, Rule, Word};
 use std::alloc::{AllocError, Global};

@@ -6,7 +6,7 @@ ghost use Rattle.kc_kmer.specs.Occurrences.{words_in};
 ghost use Rattle.kc_word.specs.Walking.{words_left};
 
 use crate::piece::Piece;
-use crate::roll::Roll;
+use crate::piece_words::Roll;
 use kc_kmer::Rule;
 use std::alloc::AllocError;
 use std::marker::Model;

@@ -1,6 +1,6 @@
 //! The words of a batch, one after another, without memory.
+use crate::piece_words::Roll;
 use crate::pieces::Pieces;
-use crate::roll::Roll;
 use std::marker::Model;
 
 /// An iterator over the words of a batch. Its view is the list of those still to come.
