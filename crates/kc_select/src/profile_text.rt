@@ -1,5 +1,5 @@
 //! The profile of a record, as lines of bedGraph.
-ghost use Rattle.std.specs.Prelude.{◌≡◌, ◌++◌, OnOk, OnErr};
+ghost use Rattle.std.specs.Prelude.{◌++◌, OnOk, OnErr};
 ghost use Rattle.kc_io.specs.Sinks.{HasBegun, Drains};
 ghost use Rattle.kc_select.specs.Profiles.{name_of, run_line, run_lines};
 ghost use Rattle.kc_select.specs.CountWalks.{runs_left};
