@@ -1,6 +1,7 @@
-// Looking up words in a long list in three ways: in the order in which they are asked for, by an index of prefixes, as
-// kcount does it; ordered by prefix first, a block of words at a time; and in a hash set, one cache line for each word.
-// Four of five words are in the list. Prints lines "WAY NANOSECONDS FOUND", of the least of ROUNDS.
+// Looking up words in a long list in four ways: in the order in which they are asked for, by an index of prefixes, as
+// kcount does it; ordered by prefix first, a block of words at a time, with the words that are found in the order in
+// which they were asked for, or in any order; and in a hash set, one cache line for each word. Four of five words are in
+// the list. Prints lines "WAY NANOSECONDS FOUND", of the least of ROUNDS.
 //   main LISTED_WORDS ASKED_WORDS ROUNDS
 #include <stdio.h>
 #include <stdlib.h>
@@ -8,7 +9,7 @@
 
 #include "common.h"
 
-enum { BASES = 21, AT_A_TIME = 64, BLOCK = 1 << 20, PREFIX_BITS = 8, LINE = 8 };
+enum { BASES = 21, AT_A_TIME = 64, BLOCK = 1 << 22, PREFIX_BITS = 10, LINE = 8 };
 
 static uint64_t *list, *set, state = 1;
 static uint32_t *starts;
@@ -64,14 +65,21 @@ static uint64_t ordered[BLOCK];
 static uint32_t whence[BLOCK];
 static uint8_t kept[BLOCK];
 
-static void look_up_block(const uint64_t *words, size_t count) {
-    size_t ends[1 << PREFIX_BITS] = {0}, before = 0;
-    for (size_t i = 0; i < count; i++) ends[words[i] >> (2 * BASES - PREFIX_BITS)]++;
+// for each prefix, the place of its first word in the order of prefixes
+static void find_places(const uint64_t *words, size_t count, size_t *places) {
+    size_t before = 0;
+    memset(places, 0, sizeof(size_t) << PREFIX_BITS);
+    for (size_t i = 0; i < count; i++) places[words[i] >> (2 * BASES - PREFIX_BITS)]++;
     for (size_t p = 0; p < 1 << PREFIX_BITS; p++) {
-        size_t size = ends[p];
-        ends[p] = before;
+        size_t size = places[p];
+        places[p] = before;
         before += size;
     }
+}
+
+static void look_up_block(const uint64_t *words, size_t count) {
+    size_t ends[1 << PREFIX_BITS];
+    find_places(words, count, ends);
     for (size_t i = 0; i < count; i++) {
         size_t place = ends[words[i] >> (2 * BASES - PREFIX_BITS)]++;
         ordered[place] = words[i];
@@ -92,6 +100,29 @@ static size_t by_prefix(const uint64_t *words, size_t count) {
         look_up_block(words + at, some);
         for (size_t i = 0; i < some; i++) all += kept[i];
     }
+    return all;
+}
+
+// the words that are found come to the front of `ordered`, in any order
+static size_t keep_in_any_order(const uint64_t *words, size_t count) {
+    size_t ends[1 << PREFIX_BITS], all = 0;
+    find_places(words, count, ends);
+    for (size_t i = 0; i < count; i++) ordered[ends[words[i] >> (2 * BASES - PREFIX_BITS)]++] = words[i];
+    uint8_t found[AT_A_TIME];
+    for (size_t at = 0; at < count; at += AT_A_TIME) {
+        size_t some = count - at < AT_A_TIME ? count - at : AT_A_TIME;
+        look_up(ordered + at, some, found);
+        for (size_t i = 0; i < some; i++) {
+            ordered[all] = ordered[at + i];
+            all += found[i];
+        }
+    }
+    return all;
+}
+
+static size_t in_any_order(const uint64_t *words, size_t count) {
+    size_t all = 0;
+    for (size_t at = 0; at < count; at += BLOCK) all += keep_in_any_order(words + at, count - at < BLOCK ? count - at : BLOCK);
     return all;
 }
 
@@ -144,9 +175,9 @@ int main(int argc, char **argv) {
     make_list();
     for (size_t i = 0; i < asked; i++)
         words[i] = xorshift(&state) % 5 ? list[xorshift(&state) % listed] : random_word();
-    const char *names[] = {"asked", "prefix", "set"};
-    size_t (*const ways[])(const uint64_t *, size_t) = {as_asked, by_prefix, in_set};
-    for (int way = 0; way < 3; way++) {
+    const char *names[] = {"asked", "prefix", "any", "set"};
+    size_t (*const ways[])(const uint64_t *, size_t) = {as_asked, by_prefix, in_any_order, in_set};
+    for (int way = 0; way < 4; way++) {
         uint64_t least = 0;
         size_t found = 0;
         for (int round = 0; round < rounds; round++) {
